@@ -8,17 +8,7 @@ use Rattle.std.proofs.lemmas.List.{length-set}
 use Rattle.std.proofs.lemmas.List.Sums.{sum_by-cons}
 use Rattle.tta_list.proofs.Lists.{slice_get-longer, slice_get-back, some_within}
 use Rattle.tta_list.proofs.Tests.{some_same}
-use Rattle.tta_program.specs.declared.program.Proc.{Proc}
-use Rattle.tta_program.specs.Program.{Program}
-use Rattle.tta_program.specs.Rules.{IsProgram}
-use Rattle.tta_flow.specs.declared.flow.Block.{Block}
-use Rattle.tta_flow.specs.declared.live.Live.{Live}
-use Rattle.tta_flow.specs.declared.table.PlaceLists.{PlaceLists}
-use Rattle.tta_flow.specs.Paths.{Reached}
-use Rattle.tta_flow.specs.Blocks.{IsFlow, Holds}
-use Rattle.tta_flow.specs.Live.{IsLive}
-use Rattle.tta_flow.specs.Search.{is_found}
-use Rattle.tta_flow.specs.Table.{is_listed}
+use Rattle.tta_alloc.specs.Cited.{Proc, Program, IsProgram, Block, Live, PlaceLists, Reached, IsFlow, Holds, IsLive, is_found, is_listed}
 use Rattle.tta_flow.proofs.BlockLemmas.{closed_of}
 use Rattle.tta_flow.proofs.Programs.{proc_is, proc_keeps}
 use Rattle.tta_alloc.specs.declared.home.Home.{Home}

@@ -5,14 +5,7 @@ use Rattle.std.specs.Option.{option_map_or}
 use Rattle.std.proofs.lemmas.Bool.{eqb-true, eq-eqb, or_cases, and_from}
 use Rattle.std.proofs.Math.Bool.{or-true, or-false}
 use Rattle.tta_list.proofs.Tests.{and_left, and_right}
-use Rattle.tta_program.specs.declared.step.Step.{Step}
-use Rattle.tta_program.specs.declared.step.Step.TheVariants.{Copy, Apply, Load, Take, Store, Put, If, Goto, When, Invoke, Return, Halt, End}
-use Rattle.tta_flow.specs.declared.bits.BitRow.{BitRow}
-use Rattle.tta_flow.specs.Bits.{has}
-use Rattle.tta_flow.specs.Growth.{Sets}
-use Rattle.tta_flow.specs.Live.{live_before}
-use Rattle.tta_flow.specs.Paths.{LiveBefore}
-use Rattle.tta_flow.specs.Steps.{follows}
+use Rattle.tta_alloc.specs.Cited.{Step, Copy, Apply, Load, Take, Store, Put, If, Goto, When, Invoke, Return, Halt, End, BitRow, has, Sets, live_before, LiveBefore, follows}
 use Rattle.tta_alloc.specs.declared.body.Body.{Body}
 use Rattle.tta_alloc.specs.Bodies.{IsKnown, is_held, is_held_over}
 use Rattle.tta_alloc.specs.Intervals.{keeps, keeps_at, IsKept}

@@ -15,7 +15,7 @@ use Rattle.tta_alloc.specs.Intervals.{Counts, IsInterval, IsKept, IsSettled}
 use Rattle.tta_alloc.proofs.HomeLemmas.{step_length, slots_length, scan_given as scan_size}
 use Rattle.std.specs.List.{Contains}
 use Rattle.tta_alloc.proofs.TakenLemmas.{at_place, same_interval}
-use Rattle.tta_program.specs.declared.program.Proc.{Proc}
+use Rattle.tta_alloc.specs.Cited.{Proc}
 use Rattle.tta_alloc.proofs.ListLemmas.{In}
 use Rattle.tta_alloc.proofs.HolderLemmas.{Kept, reg_slot}
 use Rattle.tta_alloc.proofs.TakeLemmas.{kept_step}

@@ -7,7 +7,7 @@ use Rattle.std.proofs.lemmas.Bool.Decides.{nat_tests}
 use Rattle.std.proofs.lemmas.List.{length-set}
 use Rattle.std.proofs.Math.Bool.{or-false}
 use Rattle.tta_list.proofs.Tests.{and_left, and_right}
-use Rattle.tta_flow.specs.Bits.{has}
+use Rattle.tta_alloc.specs.Cited.{has}
 use Rattle.tta_alloc.specs.declared.met.Met.{Met}
 use Rattle.tta_alloc.specs.Meetings.{met, or_met, within, IsSound, Meets}
 

@@ -3,7 +3,7 @@ use Rattle.std.proofs.Common.{◌≡◌, ◌≢◌, ℕ, ◌+◌, ◌<◌, ◌�
 use Rattle.std.specs.Prelude.{slice_get, slice_set}
 use Rattle.std.proofs.lemmas.List.{length-set}
 use Rattle.std.proofs.lemmas.Bool.{cases_eq}
-use Rattle.tta_program.specs.declared.program.Proc.{Proc}
+use Rattle.tta_alloc.specs.Cited.{Proc}
 use Rattle.tta_alloc.specs.declared.interval.Interval.{Interval}
 use Rattle.tta_alloc.specs.declared.home.Home.{Home}
 use Rattle.tta_alloc.specs.declared.home.Home.TheVariants.{Reg, Slot}

@@ -15,14 +15,12 @@ use Rattle.std.proofs.lemmas.List.Sums.{sum_by-cons, sum_by-append}
 use Rattle.std.proofs.lemmas.List.Sorted.{ranks_by, sorted_far, Contains-permutation, IsPermutation-sym, sum_by-IsPermutation}
 use Rattle.std.proofs.lemmas.List.Elements.{Contains-push, Contains-push_cases, Contains-append_left}
 use Rattle.std.proofs.lemmas.Option.{slice_get_read, slice_get_within, get_or_from_slice_get}
-use Rattle.tta_program.specs.declared.program.Proc.{Proc}
+use Rattle.tta_alloc.specs.Cited.{Proc, BitRow, has}
 use Rattle.tta_alloc.specs.declared.interval.Interval.{Interval}
 use Rattle.tta_alloc.specs.Intervals.{Counts, IsInterval, IsKept, TakesPart, AreTaken, IsBefore, IsSettled}
 use Rattle.tta_alloc.specs.Together.{AreAmong, AreFirst, AreLast, AreKept, interval_of}
 use Rattle.tta_alloc.specs.Meetings.{met}
 use Rattle.tta_alloc.specs.declared.met.Met.{Met}
-use Rattle.tta_flow.specs.declared.bits.BitRow.{BitRow}
-use Rattle.tta_flow.specs.Bits.{has}
 use Rattle.tta_flow.proofs.RunLemmas.{two as three}
 
 -- ---- elements by their places

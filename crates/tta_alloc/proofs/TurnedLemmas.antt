@@ -4,7 +4,7 @@ use Rattle.std.specs.Prelude.{◌↔◌, slice_get}
 use Rattle.std.specs.Option.{option_map_or}
 use Rattle.std.proofs.lemmas.List.{take_more}
 use Rattle.std.proofs.lemmas.Option.{slice_get_within}
-use Rattle.tta_program.specs.declared.program.Proc.{Proc}
+use Rattle.tta_alloc.specs.Cited.{Proc}
 use Rattle.tta_alloc.specs.declared.interval.Interval.{Interval}
 use Rattle.tta_alloc.specs.declared.home.Home.{Home}
 use Rattle.tta_alloc.specs.declared.home.Home.TheVariants.{Reg, Slot}

@@ -5,13 +5,7 @@ use Rattle.std.specs.Option.{MatchOption}
 use Rattle.std.proofs.lemmas.Bool.{cases_eq, eq-eqb, ne_eqb, or_cases, ltb-true, lt-ltb, and_from}
 use Rattle.std.proofs.Math.Bool.{or-true}
 use Rattle.tta_list.proofs.Tests.{and_left, and_right}
-use Rattle.tta_program.specs.declared.step.Step.{Step}
-use Rattle.tta_flow.specs.declared.bits.BitRow.{BitRow}
-use Rattle.tta_flow.specs.Bits.{has}
-use Rattle.tta_flow.specs.Steps.{assigns_at}
-use Rattle.tta_flow.specs.Paths.{Reached, Begin, Onward, IsClosed, LiveBefore, ReadHere, ReadLater, LiveAfter}
-use Rattle.tta_flow.specs.Live.{live_before}
-use Rattle.tta_flow.specs.Search.{is_found}
+use Rattle.tta_alloc.specs.Cited.{Step, BitRow, has, assigns_at, Reached, Begin, Onward, IsClosed, LiveBefore, ReadHere, ReadLater, LiveAfter, live_before, is_found}
 use Rattle.tta_alloc.specs.declared.body.Body.{Body}
 use Rattle.tta_alloc.specs.declared.met.Met.{Met}
 use Rattle.tta_alloc.specs.Bodies.{IsKnown, at_entry, at_step, counted, Fills}

@@ -1,7 +1,6 @@
 -- What code may rely on of the homes of variables, however the home registers are chosen.
 use Rattle.std.specs.Prelude.{◌≡◌, ◌↔◌, ℕ, ◌<◌, List, Some, length, slice_get}
-use Rattle.tta_program.specs.declared.program.Proc.{Proc}
-use Rattle.tta_program.specs.Program.{Program}
+use Rattle.tta_alloc.specs.Cited.{Proc, Program}
 use Rattle.tta_alloc.specs.declared.home.Home.{Home}
 use Rattle.tta_alloc.specs.declared.home.Home.TheVariants.{Slot}
 use Rattle.tta_alloc.specs.declared.homes.Homes.{Homes}

@@ -1,10 +1,6 @@
 -- A procedure with what is known of it, and which variables are found at its positions.
 use Rattle.std.specs.Prelude.{◌≡◌, ◌↔◌, ℕ, ◌+◌, ◌-◌, ◌^◌, ◌<◌, ◌/◌, ◌==◌, nat_lt, Bool, true, ◌&&◌, ◌||◌, if◌then◌else◌, length}
-use Rattle.tta_flow.specs.declared.bits.BitRow.{BitRow}
-use Rattle.tta_flow.specs.Bits.{has}
-use Rattle.tta_flow.specs.Live.{live_before}
-use Rattle.tta_flow.specs.Paths.{Reached, IsClosed, LiveBefore}
-use Rattle.tta_flow.specs.Steps.{assigns_at}
+use Rattle.tta_alloc.specs.Cited.{BitRow, has, live_before, Reached, IsClosed, LiveBefore, assigns_at}
 use Rattle.tta_alloc.specs.declared.body.Body.{Body}
 use Rattle.tta_alloc.specs.Intervals.{keeps_at}
 

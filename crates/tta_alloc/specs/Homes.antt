@@ -1,8 +1,7 @@
 -- The homes of the variables of a program.
 use Rattle.std.specs.Prelude.{◌≡◌, ℕ, ◌<◌, List, Some, slice_get}
 use Rattle.std.specs.Option.{option_map_or}
-use Rattle.tta_program.specs.declared.program.Proc.{Proc}
-use Rattle.tta_program.specs.Program.{Program}
+use Rattle.tta_alloc.specs.Cited.{Proc, Program}
 use Rattle.tta_alloc.specs.declared.interval.Interval.{Interval}
 use Rattle.tta_alloc.specs.declared.home.Home.{Home}
 use Rattle.tta_alloc.specs.declared.home.Home.TheVariants.{Slot}

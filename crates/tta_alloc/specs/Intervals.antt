@@ -2,11 +2,7 @@
 use Rattle.std.specs.Prelude.{◌≡◌, ℕ, ◌+◌, ◌<◌, ◌≤◌, ◌==◌, Bool, true, false, not, List, Some, slice_get, ◌⊎◌}
 use Rattle.std.specs.Option.{option_map_or}
 use Rattle.std.specs.List.{Contains}
-use Rattle.tta_program.specs.declared.step.Step.{Step}
-use Rattle.tta_program.specs.declared.step.Step.TheVariants.{Invoke}
-use Rattle.tta_program.specs.declared.program.Proc.{Proc}
-use Rattle.tta_flow.specs.Steps.{reads_at, assigns_at}
-use Rattle.tta_flow.specs.Paths.{Reached, LiveBefore, LiveAfter}
+use Rattle.tta_alloc.specs.Cited.{Step, Invoke, Proc, reads_at, assigns_at, Reached, LiveBefore, LiveAfter}
 use Rattle.tta_alloc.specs.declared.interval.Interval.{Interval}
 
 -- ---- positions

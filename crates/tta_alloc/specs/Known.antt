@@ -1,10 +1,6 @@
 -- What is known of a procedure when its intervals are made.
 use Rattle.std.specs.Prelude.{◌≡◌, ◌↔◌, ℕ, ◌<◌, ◌-◌, ◌^◌, true, List, length}
-use Rattle.tta_program.specs.declared.program.Proc.{Proc}
-use Rattle.tta_flow.specs.declared.live.Live.{Live}
-use Rattle.tta_flow.specs.Paths.{Reached, IsClosed, LiveBefore}
-use Rattle.tta_flow.specs.Live.{live_before}
-use Rattle.tta_flow.specs.Search.{is_found}
+use Rattle.tta_alloc.specs.Cited.{Proc, Live, Reached, IsClosed, LiveBefore, live_before, is_found}
 
 -- the steps that paths come to stand in a list, and the answers on what is live are those of the procedure
 pub record Known (q : Proc) (owner : ℕ) (reached : List ℕ) (live : Live) : Type 0 where

@@ -1,6 +1,6 @@
 -- What every linear scan keeps.
 use Rattle.std.specs.Prelude.{◌≡◌, ◌≢◌, ℕ, ◌<◌, ◌≤◌, nat_le, Bool, ◌&&◌, List, Some, slice_get, count_by, ◌⊎◌}
-use Rattle.tta_program.specs.declared.program.Proc.{Proc}
+use Rattle.tta_alloc.specs.Cited.{Proc}
 use Rattle.tta_alloc.specs.declared.interval.Interval.{Interval}
 use Rattle.tta_alloc.specs.declared.home.Home.{Home}
 use Rattle.tta_alloc.specs.declared.home.Home.TheVariants.{Reg, Slot}

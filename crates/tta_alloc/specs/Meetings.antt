@@ -1,6 +1,6 @@
 -- Variables that are met, each at the position where it was met first.
 use Rattle.std.specs.Prelude.{◌≡◌, ℕ, ◌+◌, ◌^◌, ◌<◌, ◌/◌, nat_le, nat_lt, Bool, true, false, ◌&&◌, Option, Some, None, is_some, length, get_or}
-use Rattle.tta_flow.specs.Bits.{has}
+use Rattle.tta_alloc.specs.Cited.{has}
 use Rattle.tta_alloc.specs.declared.met.Met.{Met}
 
 -- the position at which a variable was met first, if it was met

@@ -2,9 +2,7 @@
 use Rattle.std.specs.Prelude.{◌≡◌, ◌↔◌, ℕ, ◌==◌, ◌<◌, ◌≤◌, Bool, true, false, List, Option, Some, None, count_by}
 use Rattle.std.specs.List.{Contains}
 use Rattle.std.specs.Option.{MatchOption}
-use Rattle.tta_program.specs.declared.program.Proc.{Proc}
-use Rattle.tta_flow.specs.declared.bits.BitRow.{BitRow}
-use Rattle.tta_flow.specs.Bits.{has}
+use Rattle.tta_alloc.specs.Cited.{Proc, BitRow, has}
 use Rattle.tta_alloc.specs.declared.interval.Interval.{Interval}
 use Rattle.tta_alloc.specs.declared.met.Met.{Met}
 use Rattle.tta_alloc.specs.Intervals.{Counts, IsKept, TakesPart, IsSettled}

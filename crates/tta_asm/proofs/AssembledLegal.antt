@@ -2,17 +2,11 @@
 use Rattle.std.proofs.Common.{◌≡◌, ℕ, true, List, [], length, drop, Ok, sym, subst}
 use Rattle.tta_reading.specs.Steps.{◌>>=◌}
 use Rattle.tta_reading.proofs.Steps.{then-ok, same_ok}
-use Rattle.tta_ops.specs.Units.{Units}
-use Rattle.tta_arch.specs.Machine.{Machine}
-use Rattle.tta_code.specs.declared.code.Code.{Code}
-use Rattle.tta_code.specs.declared.whole.Datum.{Datum}
-use Rattle.tta_code.specs.Whole.{Whole, rises, fits}
-use Rattle.tta_code.specs.Legal.{IsLegalCode}
+use Rattle.tta_asm.specs.Cited.{Units, Machine, Code, Datum, Whole, rises, fits, IsLegalCode, IsLegalWhole}
 use Rattle.tta_asm.specs.Labels.{labels_of}
 use Rattle.tta_asm.specs.Pieces.{Piece, pieces_of}
 use Rattle.tta_asm.specs.Init.{data_from, behind_data}
 use Rattle.tta_asm.specs.Assembly.{Draft, nothing, take_pieces, assembled_code, assembled}
-use Rattle.tta_code.specs.Legal.{IsLegalWhole}
 use Rattle.tta_asm.proofs.LegalCode.{taken_legal}
 use Rattle.tta_asm.proofs.DataTaken.{data_front}
 

@@ -7,17 +7,9 @@ use Rattle.std.proofs.lemmas.Bool.{and_parts, and_from, or_parts, or_from, not-t
 use Rattle.std.proofs.lemmas.Option.{get_or_from_slice_get, slice_get_within}
 use Rattle.std.proofs.lemmas.Slice.Eq.{bytes_eq-Decides}
 use Rattle.tta_list.proofs.Lists.{list_all_one}
-use Rattle.tta_text.specs.Words.{is_name}
-use Rattle.tta_ops.specs.Reserved.{is_reserved}
-use Rattle.tta_ops.specs.Units.{Units, named}
-use Rattle.tta_ops.specs.declared.OpId.{OpId}
+use Rattle.tta_asm.specs.Cited.{is_name, is_reserved, Units, named, OpId, Op, Ldw, Stw, Ldf, Stf, Out, Take, Set, UnitOp, are_different, same_op, is_named}
 use Rattle.tta_ops.proofs.Named.{get_named}
-use Rattle.tta_arch.specs.declared.parts.Op.{Op}
-use Rattle.tta_arch.specs.declared.parts.Op.TheVariants.{Ldw, Stw, Ldf, Stf, Out, Take, Set}
-use Rattle.tta_arch.specs.declared.parts.UnitOp.{UnitOp}
 use Rattle.tta_arch.specs.declared.parts.Unit.{Unit as OpUnit}
-use Rattle.tta_arch.specs.Rules.{are_different, same_op}
-use Rattle.tta_arch.specs.Over.{is_named}
 use Rattle.tta_asm.specs.Parts.{op_name}
 
 -- an operation of the language, or one that the set of units has under a name

@@ -1,9 +1,7 @@
 -- How many pieces a text can have.
 use Rattle.std.proofs.Common.{ℕ, ◌+◌, ◌≤◌, Bool, true, false, List, [], ◌∷◌, ◌++◌, length, Option, None, Some, arith, ◌≡◌, refl}
-use Rattle.tta_text.specs.declared.lexeme.Token.{Token}
-use Rattle.tta_text.specs.Tokens.{tokens_from, tokens_of}
+use Rattle.tta_asm.specs.Cited.{Token, tokens_from, tokens_of, is_line_end, lexeme_of}
 use Rattle.tta_text.proofs.Counted.{length-tokens_from}
-use Rattle.tta_reading.specs.Lines.{is_line_end, lexeme_of}
 use Rattle.tta_asm.specs.declared.pieces.Close.{Close}
 use Rattle.tta_asm.specs.Pieces.{Placed, closing, placed, pieces_from}
 

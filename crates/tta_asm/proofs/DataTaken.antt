@@ -3,12 +3,10 @@ use Rattle.std.proofs.Common.{◌≡◌, ℕ, ◌+◌, ◌^◌, Bool, true, fals
 use Rattle.std.specs.Prelude.{◌&&◌, ◌||◌, nat_lt}
 use Rattle.std.proofs.lemmas.Bool.{and_from, or_parts, le-leb, lt-ltb, leb-false, ltb-false}
 use Rattle.std.proofs.lemmas.List.{append_assoc, append-nil}
-use Rattle.tta_reading.specs.Words.{value_of, constant_of}
-use Rattle.tta_reading.specs.Steps.{◌>>=◌, refuse_if}
+use Rattle.tta_asm.specs.Cited.{value_of, constant_of, refuse_if, Datum, rises_from, fits}
+use Rattle.tta_reading.specs.Steps.{◌>>=◌}
 use Rattle.tta_reading.proofs.Steps.{same_ok, then-ok, some-ok, refuse_if-ok}
 use Rattle.tta_reading.proofs.Constants.{constant_word}
-use Rattle.tta_code.specs.declared.whole.Datum.{Datum}
-use Rattle.tta_code.specs.Whole.{rises_from, fits}
 use Rattle.tta_asm.specs.declared.refusal.AsmRefusal.TheVariants as refusal
 use Rattle.tta_asm.specs.Refusals.{fitting}
 use Rattle.tta_asm.specs.Pieces.{Placed, Piece}

@@ -4,13 +4,9 @@ use Rattle.std.proofs.lemmas.Bool.{not-false, leb-false}
 use Rattle.std.specs.List.{AllByRecursion}
 use Rattle.std.specs.Option.{option_map_or}
 use Rattle.tta_list.proofs.Lists.{all_push}
-use Rattle.tta_reading.specs.Names.{Declared, named_in}
-use Rattle.tta_reading.specs.Steps.{◌>>=◌, refuse_if}
+use Rattle.tta_asm.specs.Cited.{Declared, named_in, refuse_if, Units, Machine, Instruction, is_legal, IsLegalCode}
+use Rattle.tta_reading.specs.Steps.{◌>>=◌}
 use Rattle.tta_reading.proofs.Steps.{same_ok, then-ok, refuse_if-ok}
-use Rattle.tta_ops.specs.Units.{Units}
-use Rattle.tta_arch.specs.Machine.{Machine}
-use Rattle.tta_code.specs.declared.code.Instruction.{Instruction}
-use Rattle.tta_code.specs.Legal.{is_legal, IsLegalCode}
 use Rattle.tta_asm.specs.declared.labels.Label.{Label}
 use Rattle.tta_asm.specs.declared.refusal.AsmRefusal.TheVariants.{Illegal, Slots, Range}
 use Rattle.tta_asm.specs.declared.refusal.AsmRefusal.TheVariants as refusal

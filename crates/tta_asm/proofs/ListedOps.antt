@@ -1,9 +1,6 @@
 -- What the operations of a set of units are called does not depend on what they mean.
 use Rattle.std.proofs.Common.{◌≡◌, ℕ, List}
-use Rattle.tta_ops.specs.declared.set.UnitSet.{UnitSet}
-use Rattle.tta_ops.specs.Set.{stated}
-use Rattle.tta_ops.specs.Stated.{stated_by}
-use Rattle.tta_arch.specs.Machine.{Machine}
+use Rattle.tta_asm.specs.Cited.{UnitSet, stated, stated_by, Machine}
 use Rattle.tta_asm.specs.declared.table.NameTable.{NameTable}
 use Rattle.tta_asm.specs.Parts.{ops_of}
 use Rattle.tta_asm.specs.Table.{IsTableOf, listed, named_at, op_named}

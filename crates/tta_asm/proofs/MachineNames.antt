@@ -6,16 +6,11 @@ use Rattle.std.proofs.lemmas.List.{drop_all, get_or_default}
 use Rattle.std.proofs.lemmas.List.Elements.{All-get_or}
 use Rattle.std.proofs.lemmas.Option.{slice_get_past, slice_get_read}
 use Rattle.tta_list.proofs.Lists.{slice_get-front, item_behind}
-use Rattle.tta_reading.specs.Names.{Declared, named_in}
+use Rattle.tta_asm.specs.Cited.{Declared, named_in, Units, ImmUnit, UnitOp, Machine, IsMachine}
 use Rattle.tta_reading.specs.Steps.{◌>>?◌}
-use Rattle.tta_ops.specs.Units.{Units}
 use Rattle.tta_arch.specs.declared.parts.File.{File}
-use Rattle.tta_arch.specs.declared.parts.ImmUnit.{ImmUnit}
 use Rattle.tta_arch.specs.declared.parts.Unit.{Unit as OpUnit}
-use Rattle.tta_arch.specs.declared.parts.UnitOp.{UnitOp}
 use Rattle.tta_arch.specs.declared.parts.Template.{Template}
-use Rattle.tta_arch.specs.Machine.{Machine}
-use Rattle.tta_arch.specs.Rules.{IsMachine}
 use Rattle.tta_arch.proofs.BusSources.{few_ops}
 use Rattle.tta_asm.specs.declared.parts.Part.{Part}
 use Rattle.tta_asm.specs.declared.parts.Part.TheVariants as part

@@ -3,7 +3,7 @@ use Rattle.std.proofs.Common.{◌≡◌, ℕ, ◌+◌, ◌<◌, Bool, true, fals
 use Rattle.std.specs.Str.{bytes_eq}
 use Rattle.std.proofs.lemmas.Slice.Eq.{bytes_eq-Decides}
 use Rattle.std.proofs.lemmas.List.{append_assoc, append-nil, drop_more}
-use Rattle.tta_reading.specs.Names.{Declared, named_in}
+use Rattle.tta_asm.specs.Cited.{Declared, named_in}
 use Rattle.tta_asm.specs.Parts.{by_place}
 use Rattle.tta_asm.specs.Table.{NameTheSame}
 

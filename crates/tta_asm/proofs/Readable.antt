@@ -5,13 +5,8 @@ use Rattle.std.specs.Str.{bytes_eq}
 use Rattle.std.specs.List.{list_all, AllByRecursion}
 use Rattle.std.proofs.lemmas.Bool.{and_parts, and_from}
 use Rattle.tta_list.proofs.Lists.{list_all_one, all_from as tests-from}
-use Rattle.tta_text.specs.Words.{is_name}
-use Rattle.tta_ops.specs.Units.{Units}
+use Rattle.tta_asm.specs.Cited.{is_name, Units, UnitOp, Machine, IsMachine, IsMachineName, is_unit, is_unit_op, is_socket, is_port_socket, are_different, same_op, StandsOver}
 use Rattle.tta_arch.specs.declared.parts.Unit.{Unit as OpUnit}
-use Rattle.tta_arch.specs.declared.parts.UnitOp.{UnitOp}
-use Rattle.tta_arch.specs.Machine.{Machine}
-use Rattle.tta_arch.specs.Rules.{IsMachine, IsMachineName, is_unit, is_unit_op, is_socket, is_port_socket, are_different, same_op}
-use Rattle.tta_arch.specs.Over.{StandsOver}
 use Rattle.tta_asm.specs.Parts.{op_name}
 use Rattle.tta_asm.proofs.CalledOps.{is_called, has_called_ops, IsToken, token, all_called, names_apart}
 

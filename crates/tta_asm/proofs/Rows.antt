@@ -1,15 +1,9 @@
 -- Small texts: the code that they are, without data, or where they are refused.
 use Rattle.std.specs.Prelude.{◌≡◌, ℕ, List, [], ◌∷◌, true, Some, None, Ok, Err, codes, refl}
-use Rattle.tta_text.specs.Tokens.{tokens_of, tokens_from, piece_at, number_piece, negative_piece, mark_piece}
-use Rattle.tta_text.specs.Numbers.{number_of, negative_of, digits_of, value_below}
-use Rattle.tta_ops.specs.Units.{Units}
-use Rattle.tta_arch.specs.Legal.{can_move}
+use Rattle.tta_asm.specs.Cited.{tokens_of, tokens_from, piece_at, number_piece, negative_piece, mark_piece, number_of, negative_of, digits_of, value_below, Units, can_move, Code, Whole, is_legal}
 use Rattle.tta_arch.specs.declared.ends.Source.TheVariants as source
 use Rattle.tta_arch.specs.declared.ends.Dest.TheVariants as dest
 use Rattle.tta_arch.proofs.Samples.{one_bus, three_buses}
-use Rattle.tta_code.specs.declared.code.Code.{Code}
-use Rattle.tta_code.specs.Whole.{Whole}
-use Rattle.tta_code.specs.Legal.{is_legal}
 use Rattle.tta_asm.specs.declared.refusal.AsmRefusal.TheVariants.{Syntax, Unknown, NoConnection, Illegal, Slots, Label, Range}
 use Rattle.tta_asm.specs.Pieces.{pieces_of}
 use Rattle.tta_asm.specs.Syntax.{source_form, dest_form, guard_form, move_form, slot_form, long_form, piece_form}

@@ -5,19 +5,9 @@ use Rattle.std.specs.Option.{option_map_or}
 use Rattle.std.proofs.lemmas.Bool.{false≢true, and_parts, ltb-true}
 use Rattle.std.proofs.lemmas.Bool.Decides.{nat_tests}
 use Rattle.tta_list.proofs.Lists.{list_all_one}
-use Rattle.tta_text.specs.Words.{is_name}
-use Rattle.tta_ops.specs.Units.{Units}
+use Rattle.tta_asm.specs.Cited.{is_name, Units, Source, Machine, is_source_on, is_dest_on, has_guard, joins, IsMachine, Ends, all_slots, Move, Long, Instruction, ends_of, is_long, is_legal}
 use Rattle.tta_arch.specs.declared.parts.Template.{Template as ImmTemplate}
-use Rattle.tta_arch.specs.declared.ends.Source.{Source}
 use Rattle.tta_arch.specs.declared.ends.Source.TheVariants as source
-use Rattle.tta_arch.specs.Machine.{Machine}
-use Rattle.tta_arch.specs.Joins.{is_source_on, is_dest_on, has_guard, joins}
-use Rattle.tta_arch.specs.Rules.{IsMachine}
-use Rattle.tta_arch.specs.Legal.{Ends, all_slots}
-use Rattle.tta_code.specs.declared.code.Move.{Move}
-use Rattle.tta_code.specs.declared.code.Long.{Long}
-use Rattle.tta_code.specs.declared.code.Instruction.{Instruction}
-use Rattle.tta_code.specs.Legal.{ends_of, is_long, is_legal}
 use Rattle.tta_code.proofs.LegalParts.{legal_parts}
 use Rattle.tta_asm.specs.Forms.{SlotForm}
 use Rattle.tta_asm.specs.Resolving.{fits_bus, move_of, action_of, long_of}

@@ -5,18 +5,8 @@ use Rattle.std.specs.List.{flat_map}
 use Rattle.std.proofs.lemmas.Bool.{and_parts, leb-true, ltb-true}
 use Rattle.std.proofs.lemmas.List.{append_assoc, append-nil}
 use Rattle.tta_text.specs.declared.lexeme.Kind.{Kind}
-use Rattle.tta_text.specs.declared.lexeme.Kind.TheVariants.{Name, Number, Mark}
-use Rattle.tta_reading.specs.Words.{is_keyword}
-use Rattle.tta_ops.specs.Units.{Units}
-use Rattle.tta_arch.specs.declared.ends.GuardRef.{GuardRef}
-use Rattle.tta_arch.specs.declared.ends.Source.{Source}
+use Rattle.tta_asm.specs.Cited.{Name, Number, Mark, is_keyword, Units, GuardRef, Source, Dest, Machine, Move, Instruction, Datum, rises_from, fits}
 use Rattle.tta_arch.specs.declared.ends.Source.TheVariants as source
-use Rattle.tta_arch.specs.declared.ends.Dest.{Dest}
-use Rattle.tta_arch.specs.Machine.{Machine}
-use Rattle.tta_code.specs.declared.code.Move.{Move}
-use Rattle.tta_code.specs.declared.code.Instruction.{Instruction}
-use Rattle.tta_code.specs.declared.whole.Datum.{Datum}
-use Rattle.tta_code.specs.Whole.{rises_from, fits}
 use Rattle.tta_asm.specs.Canonical.{file_name, imm_name, unit_name, datum_text}
 use Rattle.tta_asm.specs.Pieces.{Placed, Piece}
 use Rattle.tta_asm.specs.Init.{begins_datum, is_declaration, datum_form, datum_of, data_from, behind_data}

@@ -6,22 +6,11 @@ use Rattle.std.specs.List.{list_all, AllByRecursion}
 use Rattle.std.specs.Str.{bytes_eq}
 use Rattle.std.proofs.lemmas.Bool.{false≢true, and_parts, ltb-true}
 use Rattle.tta_list.proofs.Lists.{list_all_one}
-use Rattle.tta_text.specs.Words.{is_name}
-use Rattle.tta_ops.specs.Units.{Units}
-use Rattle.tta_arch.specs.declared.parts.Bus.{Bus}
+use Rattle.tta_asm.specs.Cited.{is_name, Units, Bus, ImmUnit, Op, Ldw, Stw, Ldf, Stf, Out, Take, Set, GuardRef, Source, Dest, Machine, within, is_source_on, is_dest_on, has_guard, holds_word, IsMachine, IsMachineName, are_different, is_bus, is_file, is_imm, is_guard}
 use Rattle.tta_arch.specs.declared.parts.File.{File as RegisterFile}
-use Rattle.tta_arch.specs.declared.parts.ImmUnit.{ImmUnit}
 use Rattle.tta_arch.specs.declared.parts.Unit.{Unit as OpUnit}
-use Rattle.tta_arch.specs.declared.parts.Op.{Op}
-use Rattle.tta_arch.specs.declared.parts.Op.TheVariants.{Ldw, Stw, Ldf, Stf, Out, Take, Set}
-use Rattle.tta_arch.specs.declared.ends.GuardRef.{GuardRef}
-use Rattle.tta_arch.specs.declared.ends.Source.{Source}
 use Rattle.tta_arch.specs.declared.ends.Source.TheVariants as source
-use Rattle.tta_arch.specs.declared.ends.Dest.{Dest}
 use Rattle.tta_arch.specs.declared.ends.Dest.TheVariants as dest
-use Rattle.tta_arch.specs.Machine.{Machine}
-use Rattle.tta_arch.specs.Joins.{within, is_source_on, is_dest_on, has_guard, holds_word}
-use Rattle.tta_arch.specs.Rules.{IsMachine, IsMachineName, are_different, is_bus, is_file, is_imm, is_guard}
 use Rattle.tta_arch.proofs.Sizes.{small_file, small_imm}
 use Rattle.tta_asm.specs.Parts.{op_name}
 use Rattle.tta_asm.specs.Resolving.{source_of, dest_of, guard_of}

@@ -2,17 +2,9 @@
 use Rattle.std.proofs.Common.{◌≡◌, ℕ, ◌+◌, Bool, true, false, List, [], ◌∷◌, ◌++◌, refl}
 use Rattle.std.specs.Prelude.{Option, Some, None, Ok, codes}
 use Rattle.std.proofs.lemmas.List.{append_assoc}
-use Rattle.tta_text.specs.declared.lexeme.Kind.TheVariants.{Mark}
-use Rattle.tta_reading.specs.Words.{is_mark}
-use Rattle.tta_ops.specs.Units.{Units}
-use Rattle.tta_arch.specs.declared.ends.GuardRef.{GuardRef}
-use Rattle.tta_arch.specs.declared.ends.Source.{Source}
+use Rattle.tta_asm.specs.Cited.{Mark, is_mark, Units, GuardRef, Source, Dest, Machine, Move, Long}
 use Rattle.tta_arch.specs.declared.ends.Source.TheVariants as source
-use Rattle.tta_arch.specs.declared.ends.Dest.{Dest}
 use Rattle.tta_arch.specs.declared.ends.Dest.TheVariants as dest
-use Rattle.tta_arch.specs.Machine.{Machine}
-use Rattle.tta_code.specs.declared.code.Move.{Move}
-use Rattle.tta_code.specs.declared.code.Long.{Long}
 use Rattle.tta_asm.specs.Canonical.{file_name, imm_name, unit_name, template_name, op_name_at}
 use Rattle.tta_asm.specs.Pieces.{Piece}
 use Rattle.tta_asm.specs.Forms.{Constant, SourceForm, Value, Shown, Ra, DestForm, Operand, Trigger, GuardForm, MoveForm, SlotForm, LongForm}

@@ -3,17 +3,9 @@ use Rattle.std.proofs.Common.{◌≡◌, ℕ, Bool, true, false, List, [], ◌�
 use Rattle.std.specs.Prelude.{if◌then◌else◌, Option, Some, None, codes, decimal}
 use Rattle.std.specs.List.{flat_map}
 use Rattle.std.proofs.lemmas.List.{append_assoc, append-nil}
-use Rattle.tta_text.specs.declared.lexeme.Kind.TheVariants.{Name, Number, Mark}
-use Rattle.tta_ops.specs.Units.{Units}
-use Rattle.tta_arch.specs.declared.ends.GuardRef.{GuardRef}
-use Rattle.tta_arch.specs.declared.ends.Source.{Source}
+use Rattle.tta_asm.specs.Cited.{Name, Number, Mark, Units, GuardRef, Source, Dest, Machine, Move, Long, Instruction}
 use Rattle.tta_arch.specs.declared.ends.Source.TheVariants as source
-use Rattle.tta_arch.specs.declared.ends.Dest.{Dest}
 use Rattle.tta_arch.specs.declared.ends.Dest.TheVariants as dest
-use Rattle.tta_arch.specs.Machine.{Machine}
-use Rattle.tta_code.specs.declared.code.Move.{Move}
-use Rattle.tta_code.specs.declared.code.Long.{Long}
-use Rattle.tta_code.specs.declared.code.Instruction.{Instruction}
 use Rattle.tta_asm.specs.Canonical.{file_name, imm_name, unit_name, template_name, op_name_at, place_text, guard_text, source_text, dest_text, slot_text, slots_text, long_text, instruction_text}
 use Rattle.tta_asm.proofs.ShownItems.{Item, Blank, Word, items_text, items_text-append}
 use Rattle.tta_asm.proofs.ShownScan.{close_text}

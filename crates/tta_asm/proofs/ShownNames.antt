@@ -7,15 +7,10 @@ use Rattle.std.proofs.lemmas.Bool.{and_parts, not-true, or_parts}
 use Rattle.std.proofs.lemmas.Slice.Eq.{bytes_eq-Decides}
 use Rattle.std.proofs.lemmas.List.{append_assoc, map-append}
 use Rattle.std.proofs.lemmas.Option.{slice_get-map}
-use Rattle.tta_reading.specs.Names.{Declared, named_in}
-use Rattle.tta_ops.specs.Units.{Units}
+use Rattle.tta_asm.specs.Cited.{Declared, named_in, Units, ImmUnit, UnitOp, Machine, IsMachine, names_of, are_different}
 use Rattle.tta_arch.specs.declared.parts.File.{File as RegisterFile}
-use Rattle.tta_arch.specs.declared.parts.ImmUnit.{ImmUnit}
 use Rattle.tta_arch.specs.declared.parts.Unit.{Unit as OpUnit}
-use Rattle.tta_arch.specs.declared.parts.UnitOp.{UnitOp}
 use Rattle.tta_arch.specs.declared.parts.Template.{Template as ImmTemplate}
-use Rattle.tta_arch.specs.Machine.{Machine}
-use Rattle.tta_arch.specs.Rules.{IsMachine, names_of, are_different}
 use Rattle.tta_asm.specs.declared.parts.Part.{Part}
 use Rattle.tta_asm.specs.declared.parts.Part.TheVariants.{File, Imm, Template}
 use Rattle.tta_asm.specs.declared.parts.Part.TheVariants as part

@@ -2,14 +2,9 @@
 use Rattle.std.proofs.Common.{◌≡◌, ℕ, List, ap, sym, ◌∙◌}
 use Rattle.std.specs.Prelude.{Ok}
 use Rattle.tta_reading.proofs.Steps.{same_ok}
-use Rattle.tta_ops.specs.Units.{Units}
-use Rattle.tta_arch.specs.Machine.{Machine}
-use Rattle.tta_arch.specs.Rules.{IsMachine}
-use Rattle.tta_arch.specs.Over.{StandsOver}
-use Rattle.tta_code.specs.Whole.{Whole}
+use Rattle.tta_asm.specs.Cited.{Units, Machine, IsMachine, StandsOver, Whole, IsLegalWhole}
 use Rattle.tta_asm.specs.Assembly.{assembled}
 use Rattle.tta_asm.specs.Canonical.{canonical}
-use Rattle.tta_code.specs.Legal.{IsLegalWhole}
 use Rattle.tta_asm.proofs.ShownText.{canonical_assembled}
 use Rattle.tta_asm.proofs.AssembledLegal.{assembled_legal}
 

@@ -6,13 +6,8 @@ use Rattle.std.specs.List.{list_any, list_all}
 use Rattle.std.proofs.Math.Nat.{lt-div-mul-add, pow-le-pow_right}
 use Rattle.std.proofs.lemmas.Bool.{false≢true, and_parts, eqb-true, ltb-true, leb-true, or_cases}
 use Rattle.std.proofs.lemmas.Nat.{pow_pos, pow-add}
-use Rattle.tta_arch.specs.declared.parts.Bus.{Bus}
+use Rattle.tta_asm.specs.Cited.{Bus, Guard, GuardRef, Machine, within, has_socket, holds_word, is_same, is_same_guard, is_bus, is_guard}
 use Rattle.tta_arch.specs.declared.parts.File.{File as RegisterFile}
-use Rattle.tta_arch.specs.declared.parts.Guard.{Guard}
-use Rattle.tta_arch.specs.declared.ends.GuardRef.{GuardRef}
-use Rattle.tta_arch.specs.Machine.{Machine}
-use Rattle.tta_arch.specs.Joins.{within, has_socket, holds_word, is_same, is_same_guard}
-use Rattle.tta_arch.specs.Rules.{is_bus, is_guard}
 
 -- ---- words of a short field
 

@@ -2,7 +2,7 @@
 use Rattle.std.proofs.Common.{◌≡◌, ℕ, ◌+◌, Bool, true, false, not, List, [], ◌∷◌, ◌++◌, length, length-append, refl, ap, ◌∙◌}
 use Rattle.std.specs.Prelude.{if◌then◌else◌}
 use Rattle.std.proofs.lemmas.List.{append_assoc, append-nil}
-use Rattle.tta_text.specs.Tokens.{tokens_of, tokens_from}
+use Rattle.tta_asm.specs.Cited.{tokens_of, tokens_from}
 use Rattle.tta_asm.specs.declared.pieces.Close.TheVariants.{End}
 use Rattle.tta_asm.specs.Pieces.{Placed, Piece, pieces_of}
 use Rattle.tta_asm.proofs.ShownItems.{Item, Blank, Word, items_text, placed_at, behind, behind-length}

@@ -1,7 +1,7 @@
 -- Machines whose code can be read back from its canonical text.
 use Rattle.std.proofs.Common.{◌≡◌, ℕ, List, [], ◌∷◌, refl}
 use Rattle.std.specs.Prelude.{codes}
-use Rattle.tta_ops.specs.Units.{Units}
+use Rattle.tta_asm.specs.Cited.{Units}
 use Rattle.tta_arch.proofs.Samples.{one_bus, three_buses}
 use Rattle.tta_asm.proofs.Readable.{IsReadable}
 

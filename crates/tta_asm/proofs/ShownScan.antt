@@ -3,10 +3,8 @@ use Rattle.std.proofs.Common.{◌≡◌, ℕ, ◌+◌, Bool, true, false, not, L
 use Rattle.std.specs.Prelude.{Some, None, codes}
 use Rattle.std.proofs.lemmas.List.{append_assoc}
 use Rattle.tta_text.specs.declared.lexeme.Kind.{Kind}
-use Rattle.tta_text.specs.declared.lexeme.Kind.TheVariants.{Mark, Eol}
-use Rattle.tta_text.specs.Bytes.{is_newline}
-use Rattle.tta_text.specs.Tokens.{token, piece_at, mark_piece, tokens_from}
-use Rattle.tta_reading.specs.Lines.{is_line_end}
+use Rattle.tta_asm.specs.Cited.{Mark, Eol, is_newline, piece_at, mark_piece, tokens_from, is_line_end}
+use Rattle.tta_text.specs.Tokens.{token}
 use Rattle.tta_reading.proofs.TextNames.{slice-between}
 use Rattle.tta_reading.proofs.Scanned.{IsScanned}
 use Rattle.tta_asm.specs.declared.pieces.Close.{Close}

@@ -2,18 +2,9 @@
 use Rattle.std.proofs.Common.{◌≡◌, ℕ, ◌<◌, ◌^◌, Bool, true, false, List, [], ◌∷◌, ◌++◌, refl}
 use Rattle.std.specs.Prelude.{Option, Some, None, codes, decimal}
 use Rattle.std.proofs.lemmas.List.{append_assoc, append-nil}
-use Rattle.tta_text.specs.declared.lexeme.Kind.TheVariants.{Name, Mark}
-use Rattle.tta_text.specs.Bytes.{is_word_byte}
-use Rattle.tta_text.specs.Words.{first_is, is_name}
-use Rattle.tta_ops.specs.Units.{Units}
-use Rattle.tta_arch.specs.declared.ends.GuardRef.{GuardRef}
-use Rattle.tta_arch.specs.declared.ends.Source.{Source}
+use Rattle.tta_asm.specs.Cited.{Name, Mark, is_word_byte, first_is, is_name, Units, GuardRef, Source, Dest, Machine, Move, Long}
 use Rattle.tta_arch.specs.declared.ends.Source.TheVariants as source
-use Rattle.tta_arch.specs.declared.ends.Dest.{Dest}
 use Rattle.tta_arch.specs.declared.ends.Dest.TheVariants as dest
-use Rattle.tta_arch.specs.Machine.{Machine}
-use Rattle.tta_code.specs.declared.code.Move.{Move}
-use Rattle.tta_code.specs.declared.code.Long.{Long}
 use Rattle.tta_asm.specs.Canonical.{file_name, imm_name, unit_name, template_name, op_name_at}
 use Rattle.tta_asm.proofs.ShownItems.{Item, Blank, Word, items_text, items_text-append}
 use Rattle.tta_asm.proofs.ShownScan.{Stays, close_text}

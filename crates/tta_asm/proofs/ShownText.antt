@@ -5,22 +5,13 @@ use Rattle.std.specs.List.{flat_map, AllByRecursion}
 use Rattle.std.proofs.lemmas.Bool.{eqb-true}
 use Rattle.std.proofs.lemmas.Nat.{pow_pos}
 use Rattle.std.proofs.lemmas.List.{append_assoc, append-nil}
-use Rattle.tta_ops.specs.Units.{Units}
-use Rattle.tta_arch.specs.Machine.{Machine}
-use Rattle.tta_arch.specs.Over.{StandsOver}
-use Rattle.tta_arch.specs.Rules.{IsMachine}
-use Rattle.tta_code.specs.declared.code.Move.{Move}
-use Rattle.tta_code.specs.declared.code.Long.{Long}
-use Rattle.tta_code.specs.declared.code.Instruction.{Instruction}
-use Rattle.tta_code.specs.Whole.{Whole}
-use Rattle.tta_code.specs.Legal.{is_legal}
+use Rattle.tta_asm.specs.Cited.{Units, Machine, StandsOver, IsMachine, Move, Long, Instruction, Whole, is_legal, IsLegalWhole}
 use Rattle.tta_code.proofs.LegalParts.{LegalParts, legal_parts}
 use Rattle.tta_asm.specs.Forms.{SlotForm}
 use Rattle.tta_asm.specs.Labels.{label_of, is_semicolon, instructions_in, labels_from, labels_of}
 use Rattle.tta_asm.specs.Assembly.{Draft, instruction_of, begun_label, take_piece, take_pieces, assembled}
 use Rattle.tta_asm.specs.Canonical.{datum_text, canonical}
 use Rattle.tta_asm.proofs.Readable.{IsReadable, readable}
-use Rattle.tta_code.specs.Legal.{IsLegalWhole}
 use Rattle.tta_asm.proofs.ShownItems.{behind}
 use Rattle.tta_asm.proofs.ShownScan.{close_of, line_behind}
 use Rattle.tta_asm.proofs.ShownPieces.{PieceText, pieces_text, ArePieces, pieces_shown, pieces_of-shown}

@@ -6,10 +6,8 @@ use Rattle.std.specs.Char.{is_ascii_digit}
 use Rattle.std.proofs.lemmas.Fmt.{decimal_is_IsNumeral}
 use Rattle.std.proofs.lemmas.Bool.{and_parts, false≢true}
 use Rattle.std.proofs.lemmas.Bool.Decides.{nat_tests}
-use Rattle.tta_text.specs.declared.lexeme.Kind.TheVariants.{Name, Number, Mark}
-use Rattle.tta_text.specs.Bytes.{is_word_byte}
-use Rattle.tta_text.specs.Tokens.{token, piece_at, mark_piece}
-use Rattle.tta_text.specs.Words.{first_is, is_letter, is_run, is_name}
+use Rattle.tta_asm.specs.Cited.{Name, Number, Mark, is_word_byte, piece_at, mark_piece, first_is, is_letter, is_run, is_name}
+use Rattle.tta_text.specs.Tokens.{token}
 use Rattle.tta_text.proofs.Shapes.{digit_is_run_byte}
 use Rattle.tta_text.proofs.ShownWords.{digits_of_values}
 use Rattle.tta_asm.proofs.ShownScan.{Stays}

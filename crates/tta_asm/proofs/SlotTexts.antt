@@ -4,9 +4,7 @@ use Rattle.std.specs.Prelude.{Option, None}
 use Rattle.std.specs.List.{flat_map}
 use Rattle.std.proofs.lemmas.List.{append-nil, append_assoc, take_all, take_more}
 use Rattle.std.proofs.lemmas.Grind.{flat_map-append}
-use Rattle.tta_ops.specs.Units.{Units}
-use Rattle.tta_arch.specs.Machine.{Machine}
-use Rattle.tta_code.specs.declared.code.Move.{Move}
+use Rattle.tta_asm.specs.Cited.{Units, Machine, Move}
 use Rattle.tta_asm.specs.Canonical.{slot_text, slots_text}
 use Rattle.tta_asm.specs.Printing.{later_slot_text}
 

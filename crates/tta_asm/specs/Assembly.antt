@@ -1,16 +1,8 @@
 -- Which code with which data an assembly text is, and where it is refused.
 use Rattle.std.specs.Prelude.{ℕ, ◌+◌, ◌^◌, ◌==◌, Bool, false, not, ◌&&◌, nat_le, if◌then◌else◌, List, [], ◌∷◌, ◌++◌, length, Option, Some, None, Result, Ok, Err}
 use Rattle.std.specs.Option.{option_map_or}
-use Rattle.tta_reading.specs.Names.{Declared, named_in}
-use Rattle.tta_reading.specs.Steps.{◌>>=◌, refuse_if}
-use Rattle.tta_ops.specs.Units.{Units}
-use Rattle.tta_arch.specs.Machine.{Machine}
-use Rattle.tta_code.specs.declared.code.Move.{Move}
-use Rattle.tta_code.specs.declared.code.Long.{Long}
-use Rattle.tta_code.specs.declared.code.Instruction.{Instruction}
-use Rattle.tta_code.specs.declared.code.Code.{Code}
-use Rattle.tta_code.specs.Whole.{Whole}
-use Rattle.tta_code.specs.Legal.{is_legal}
+use Rattle.tta_asm.specs.Cited.{Declared, named_in, refuse_if, Units, Machine, Move, Long, Instruction, Code, Whole, is_legal}
+use Rattle.tta_reading.specs.Steps.{◌>>=◌}
 use Rattle.tta_asm.specs.declared.refusal.AsmRefusal.{AsmRefusal}
 use Rattle.tta_asm.specs.declared.refusal.AsmRefusal.TheVariants.{Illegal, Slots, Range}
 use Rattle.tta_asm.specs.declared.refusal.AsmRefusal.TheVariants as refusal

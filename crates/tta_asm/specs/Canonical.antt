@@ -2,18 +2,9 @@
 use Rattle.std.specs.Prelude.{ℕ, if◌then◌else◌, List, [], ◌∷◌, ◌++◌, Option, Some, None, slice_get, codes, decimal}
 use Rattle.std.specs.Option.{option_map_or}
 use Rattle.std.specs.List.{flat_map}
-use Rattle.tta_ops.specs.Units.{Units}
-use Rattle.tta_arch.specs.declared.ends.GuardRef.{GuardRef}
-use Rattle.tta_arch.specs.declared.ends.Source.{Source}
+use Rattle.tta_asm.specs.Cited.{Units, GuardRef, Source, Dest, Machine, Move, Long, Instruction, Datum, Whole}
 use Rattle.tta_arch.specs.declared.ends.Source.TheVariants as source
-use Rattle.tta_arch.specs.declared.ends.Dest.{Dest}
 use Rattle.tta_arch.specs.declared.ends.Dest.TheVariants as dest
-use Rattle.tta_arch.specs.Machine.{Machine}
-use Rattle.tta_code.specs.declared.code.Move.{Move}
-use Rattle.tta_code.specs.declared.code.Long.{Long}
-use Rattle.tta_code.specs.declared.code.Instruction.{Instruction}
-use Rattle.tta_code.specs.declared.whole.Datum.{Datum}
-use Rattle.tta_code.specs.Whole.{Whole}
 use Rattle.tta_asm.specs.Parts.{op_name}
 
 -- ---- names

@@ -1,7 +1,6 @@
 -- The labels of a text: which names stand for addresses. They are collected before anything else is read.
 use Rattle.std.specs.Prelude.{ℕ, ◌+◌, Bool, true, false, if◌then◌else◌, List, [], ◌∷◌, ◌++◌, Option, Some, None, is_some}
-use Rattle.tta_reading.specs.Names.{Declared, named_in}
-use Rattle.tta_reading.specs.Words.{name_of}
+use Rattle.tta_asm.specs.Cited.{Declared, named_in, name_of}
 use Rattle.tta_asm.specs.declared.pieces.Close.{Close}
 use Rattle.tta_asm.specs.declared.pieces.Close.TheVariants.{Colon, Semicolon}
 use Rattle.tta_asm.specs.declared.labels.Label.{Label}

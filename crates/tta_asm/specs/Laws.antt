@@ -1,13 +1,8 @@
 -- That a whole and its canonical text determine each other.
 use Rattle.std.specs.Prelude.{◌≡◌, ℕ, List, Ok}
-use Rattle.tta_ops.specs.Units.{Units}
-use Rattle.tta_arch.specs.Machine.{Machine}
-use Rattle.tta_arch.specs.Rules.{IsMachine}
-use Rattle.tta_arch.specs.Over.{StandsOver}
-use Rattle.tta_code.specs.Whole.{Whole}
+use Rattle.tta_asm.specs.Cited.{Units, Machine, IsMachine, StandsOver, Whole, IsLegalWhole}
 use Rattle.tta_asm.specs.Assembly.{assembled}
 use Rattle.tta_asm.specs.Canonical.{canonical}
-use Rattle.tta_code.specs.Legal.{IsLegalWhole}
 
 -- a legal whole is read back from its canonical text
 abbrev pub ReadsBack : Type 0

@@ -1,3 +1,4 @@
+pub mod Cited
 pub mod Assembly
 pub mod Resolving
 pub mod Syntax

@@ -1,11 +1,7 @@
 -- What the names of a machine's parts stand for.
 use Rattle.std.specs.Prelude.{ℕ, ◌+◌, List, [], ◌∷◌, ◌++◌, map, slice_index_or, codes}
-use Rattle.tta_reading.specs.Names.{Declared}
-use Rattle.tta_ops.specs.Units.{Units}
-use Rattle.tta_arch.specs.declared.parts.Op.{Op}
-use Rattle.tta_arch.specs.declared.parts.Op.TheVariants.{Ldw, Stw, Ldf, Stf, Out, Take, Set}
+use Rattle.tta_asm.specs.Cited.{Declared, Units, Op, Ldw, Stw, Ldf, Stf, Out, Take, Set, Machine}
 use Rattle.tta_arch.specs.declared.parts.Unit.{Unit as OpUnit}
-use Rattle.tta_arch.specs.Machine.{Machine}
 use Rattle.tta_asm.specs.declared.parts.Part.{Part}
 use Rattle.tta_asm.specs.declared.parts.Part.TheVariants.{File, Imm, Template}
 use Rattle.tta_asm.specs.declared.parts.Part.TheVariants as part

@@ -1,9 +1,6 @@
 -- A text of assembly, cut at each ',', ':' and ';'. Line ends count as blanks.
 use Rattle.std.specs.Prelude.{ℕ, ◌+◌, if◌then◌else◌, List, [], ◌∷◌, ◌++◌, Option, Some, None, codes}
-use Rattle.tta_text.specs.declared.lexeme.Token.{Token}
-use Rattle.tta_text.specs.Tokens.{tokens_of}
-use Rattle.tta_reading.specs.Lines.{Lexeme, is_line_end, lexeme_of}
-use Rattle.tta_reading.specs.Words.{is_mark}
+use Rattle.tta_asm.specs.Cited.{Token, tokens_of, Lexeme, is_line_end, lexeme_of, is_mark}
 use Rattle.tta_asm.specs.declared.pieces.Close.{Close}
 use Rattle.tta_asm.specs.declared.pieces.Close.TheVariants.{Comma, Colon, Semicolon, End}
 

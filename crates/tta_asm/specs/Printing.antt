@@ -1,8 +1,6 @@
 -- How the canonical text is put together, slot by slot.
 use Rattle.std.specs.Prelude.{List, ◌++◌, Option, codes, ℕ}
-use Rattle.tta_ops.specs.Units.{Units}
-use Rattle.tta_arch.specs.Machine.{Machine}
-use Rattle.tta_code.specs.declared.code.Move.{Move}
+use Rattle.tta_asm.specs.Cited.{Units, Machine, Move}
 use Rattle.tta_asm.specs.Canonical.{slot_text}
 
 -- a slot that is not the first, with the comma before it

@@ -1,18 +1,10 @@
 -- What the names of a slot or a long immediate stand for in a machine, and when one is refused.
 use Rattle.std.specs.Prelude.{ℕ, ◌==◌, Bool, true, not, ◌&&◌, nat_lt, if◌then◌else◌, List, Option, Some, None, is_some, option_map, option_and_then, slice_get, Result, Ok, codes}
 use Rattle.std.specs.Str.{bytes_eq}
-use Rattle.tta_reading.specs.Names.{Declared, named_in}
-use Rattle.tta_reading.specs.Steps.{◌>>=◌, ◌>>?◌, or_refuse, refuse_if, only_if}
-use Rattle.tta_ops.specs.Units.{Units}
-use Rattle.tta_arch.specs.declared.ends.GuardRef.{GuardRef}
-use Rattle.tta_arch.specs.declared.ends.Source.{Source}
+use Rattle.tta_asm.specs.Cited.{Declared, named_in, or_refuse, refuse_if, only_if, Units, GuardRef, Source, Dest, Machine, is_source_on, joins, Move, Long}
+use Rattle.tta_reading.specs.Steps.{◌>>=◌, ◌>>?◌}
 use Rattle.tta_arch.specs.declared.ends.Source.TheVariants as source
-use Rattle.tta_arch.specs.declared.ends.Dest.{Dest}
 use Rattle.tta_arch.specs.declared.ends.Dest.TheVariants as dest
-use Rattle.tta_arch.specs.Machine.{Machine}
-use Rattle.tta_arch.specs.Joins.{is_source_on, joins}
-use Rattle.tta_code.specs.declared.code.Move.{Move}
-use Rattle.tta_code.specs.declared.code.Long.{Long}
 use Rattle.tta_asm.specs.declared.refusal.AsmRefusal.{AsmRefusal}
 use Rattle.tta_asm.specs.declared.refusal.AsmRefusal.TheVariants.{Unknown, NoConnection, Label, Range}
 use Rattle.tta_asm.specs.declared.parts.Part.{Part}

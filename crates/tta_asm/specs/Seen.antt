@@ -1,6 +1,6 @@
 -- What the code reads, as the definitions see it.
 use Rattle.std.specs.Prelude.{ℕ, List, map, option_map}
-use Rattle.tta_reading.specs.Lines.{plain}
+use Rattle.tta_asm.specs.Cited.{plain}
 use Rattle.tta_asm.specs.declared.pieces.PlacedWord.{PlacedWord}
 use Rattle.tta_asm.specs.declared.pieces.Close.{Close}
 use Rattle.tta_asm.specs.declared.forms.ValueForm.{ValueForm as ValueWords}

@@ -5,18 +5,9 @@ use Rattle.std.specs.List.{list_any, sum_by}
 use Rattle.std.proofs.lemmas.List.Sums.{sum_by-cons}
 use Rattle.std.proofs.lemmas.Bool.{and_parts}
 use Rattle.tta_arch.specs.declared.ends.Source.TheVariants as source
-use Rattle.tta_arch.specs.declared.parts.UnitOp.{UnitOp}
-use Rattle.tta_arch.specs.Machine.{Machine}
-use Rattle.tta_arch.specs.Rules.{same_op}
-use Rattle.tta_arch.specs.Effects.{Target, Reg, Imm, Operand, Trigger, Control, op_at}
-use Rattle.tta_connect.specs.Coverage.{hub_of}
-use Rattle.tta_moves.specs.declared.items.ItemSource.{ItemSource}
-use Rattle.tta_moves.specs.declared.items.ItemSource.TheVariants.{Port, Address}
-use Rattle.tta_moves.specs.declared.items.Item.{Item}
-use Rattle.tta_moves.specs.Touches.{source_of, target_of_item, is_unguarded}
-use Rattle.tta_moves.specs.Slots.{is_list}
-use Rattle.tta_moves.specs.Forms.{is_straight}
-use Rattle.tta_optim.specs.Kept.{Aim, ToStart, aim_of, is_address, names, AsksNoMore}
+use Rattle.tta_bind.specs.Cited.{UnitOp, Machine, same_op, Target, Reg, Imm, Trigger, Control, op_at, hub_of, ItemSource, Address, Item, source_of, target_of_item, is_unguarded, is_list, is_straight, Aim, ToStart, aim_of, is_address, names, AsksNoMore}
+use Rattle.tta_arch.specs.Effects.{Operand}
+use Rattle.tta_moves.specs.declared.items.ItemSource.TheVariants.{Port}
 use Rattle.tta_bind.specs.declared.seats.Seat.{Seat}
 use Rattle.tta_bind.specs.Seated.{seated_source, seated_target, seated, all_seated, does_same, reads_same, starts_same, had_same, AreSeats}
 use Rattle.tta_bind.proofs.Items.{source_seated, target_seated, seated_length}

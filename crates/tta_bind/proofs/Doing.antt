@@ -3,16 +3,8 @@ use Rattle.std.proofs.Common.{◌≡◌, ℕ, Bool, true, false, [], ◌∷◌, 
 use Rattle.std.specs.Prelude.{⊤, if◌then◌else◌, ◌&&◌, ◌||◌, is_none, slice_get, option_map, option_and_then}
 use Rattle.std.specs.Option.{option_map_or, option_to_list}
 use Rattle.std.proofs.lemmas.Bool.Decides.{nat_tests}
-use Rattle.tta_ops.specs.Units.{Units}
-use Rattle.tta_arch.specs.declared.ends.GuardRef.{GuardRef}
-use Rattle.tta_arch.specs.declared.parts.UnitOp.{UnitOp}
-use Rattle.tta_arch.specs.declared.parts.Op.{Op}
-use Rattle.tta_arch.specs.declared.parts.Op.TheVariants.{Ldw, Stw, Ldf, Stf, Out, Take, Set}
-use Rattle.tta_arch.specs.Machine.{Machine}
-use Rattle.tta_arch.specs.Rules.{same_op}
-use Rattle.tta_arch.specs.Effects.{Target, Reg, Imm, Operand, Trigger, Control, Jumps, Calls, Halts, Effect, Place, KeptReg, KeptImm, KeptOperand, KeptRa, KeptPort, Written, kept, is_active, moved, Brought, op_at, has_result, Start, start_of, operand_of, has_unset_guard, lacks_operand}
-use Rattle.tta_moves.specs.Touches.{guard_place, place_written}
-use Rattle.tta_moves.specs.Meaning.{Waits, is_waiting, Held, read_held, result_at_once, acts, waits_for, arrives, does, lacks}
+use Rattle.tta_bind.specs.Cited.{Units, GuardRef, UnitOp, Op, Ldw, Stw, Ldf, Stf, Out, Take, Set, Machine, same_op, Target, Reg, Imm, Trigger, Control, Jumps, Calls, Halts, Effect, Place, KeptReg, KeptImm, KeptOperand, KeptRa, KeptPort, Written, kept, is_active, moved, Brought, op_at, has_result, Start, start_of, operand_of, has_unset_guard, lacks_operand, guard_place, place_written, Waits, is_waiting, Held, read_held, result_at_once, acts, waits_for, arrives, does, lacks}
+use Rattle.tta_arch.specs.Effects.{Operand}
 use Rattle.tta_moves.proofs.Places.{either}
 use Rattle.tta_moves.proofs.Steps.{active_by, unset_by, write_at_once, step_write}
 use Rattle.tta_bind.specs.declared.seats.Seat.{Seat}

@@ -3,10 +3,8 @@ use Rattle.std.proofs.Common.{◌≡◌, ℕ, zero, suc, List, [], ◌∷◌, So
 use Rattle.std.specs.Prelude.{length, slice_get}
 use Rattle.tta_arch.specs.declared.ends.Source.TheVariants as source
 use Rattle.tta_arch.specs.declared.ends.Dest.TheVariants as dest
-use Rattle.tta_moves.specs.declared.items.Item.{Item}
-use Rattle.tta_moves.specs.declared.items.Item.TheVariants.{Move, Long}
+use Rattle.tta_bind.specs.Cited.{Item, Move, Long, guard_of, source_of, target_of_item}
 use Rattle.tta_moves.specs.declared.items.LongValue.TheVariants as long
-use Rattle.tta_moves.specs.Touches.{guard_of, source_of, target_of_item}
 use Rattle.tta_bind.specs.declared.seats.Seat.{Seat}
 use Rattle.tta_bind.specs.Seated.{seated_source, seated_target, seated, all_seated}
 

@@ -4,24 +4,14 @@ use Rattle.std.specs.Prelude.{if◌then◌else◌, not, ◌==◌, ◌&&◌, ◌|
 use Rattle.std.specs.Option.{option_map_or, option_to_list}
 use Rattle.std.proofs.lemmas.Bool.{and_parts, or_left, or_right, and_from, not-true}
 use Rattle.std.proofs.lemmas.Bool.Decides.{nat_tests}
-use Rattle.tta_ops.specs.Units.{Units}
-use Rattle.tta_arch.specs.declared.ends.GuardRef.{GuardRef}
+use Rattle.tta_bind.specs.Cited.{Units, GuardRef, UnitOp, Machine, same_op, Target, Reg, Imm, Trigger, Control, Jumps, Calls, Halts, Effect, Place, KeptReg, KeptImm, KeptOperand, KeptRa, KeptPort, same_place, Written, kept, moved, op_at, has_result, start_of, write_of, ItemSource, Address, Item, source_of, target_of_item, place_written, is_at, guard_place, writes, is_unguarded, is_waiting, Held, linked, effect_of, read_held, result_at_once, waits_for, does, lacks, do_items, has_meaning, lives, Alike, KeepsMeaning}
 use Rattle.tta_arch.specs.declared.ends.Source.TheVariants as source
-use Rattle.tta_arch.specs.declared.parts.UnitOp.{UnitOp}
-use Rattle.tta_arch.specs.Machine.{Machine}
-use Rattle.tta_arch.specs.Rules.{same_op}
-use Rattle.tta_arch.specs.Effects.{Target, Reg, Imm, Operand, Trigger, Control, Jumps, Calls, Halts, Effect, Place, KeptReg, KeptImm, KeptOperand, KeptRa, KeptPort, same_place, Written, kept, moved, op_at, has_result, start_of, write_of}
+use Rattle.tta_arch.specs.Effects.{Operand}
 use Rattle.tta_arch.proofs.Places.{same_is}
-use Rattle.tta_moves.specs.declared.items.ItemSource.{ItemSource}
-use Rattle.tta_moves.specs.declared.items.ItemSource.TheVariants.{Port, Address}
-use Rattle.tta_moves.specs.declared.items.Item.{Item}
-use Rattle.tta_moves.specs.Touches.{source_of, target_of_item, place_written, is_at, guard_place, writes, is_unguarded}
-use Rattle.tta_moves.specs.Meaning.{is_waiting, Held, linked, effect_of, read_held, result_at_once, waits_for, does, lacks, do_items, has_meaning}
-use Rattle.tta_moves.specs.Runs.{lives}
+use Rattle.tta_moves.specs.declared.items.ItemSource.TheVariants.{Port}
 use Rattle.tta_moves.proofs.Places.{either, kept_there}
 use Rattle.tta_moves.proofs.Steps.{write_at_once, step_write, does_written, step_place, kept_other, starting}
 use Rattle.tta_moves.proofs.Waiting.{stuck_all}
-use Rattle.tta_optim.specs.Kept.{Alike, KeepsMeaning}
 use Rattle.tta_optim.proofs.Copies.{sure_word}
 use Rattle.tta_order.proofs.SameItem.{moves}
 use Rattle.tta_order.proofs.Listed.{state, next, past, ends, means_at}

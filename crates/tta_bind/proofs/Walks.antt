@@ -5,10 +5,7 @@ use Rattle.std.proofs.lemmas.Bool.Decides.{nat_tests}
 use Rattle.std.specs.Option.{option_map_or}
 use Rattle.std.proofs.lemmas.List.{drop_more, drop_all}
 use Rattle.std.proofs.lemmas.Option.{slice_get_within, get_or_from_slice_get}
-use Rattle.tta_arch.specs.Machine.{Machine}
-use Rattle.tta_arch.specs.Effects.{Place}
-use Rattle.tta_moves.specs.declared.items.Item.{Item}
-use Rattle.tta_moves.specs.Touches.{writes}
+use Rattle.tta_bind.specs.Cited.{Machine, Place, Item, writes}
 use Rattle.tta_moves.proofs.Places.{either}
 use Rattle.tta_list.proofs.Tests.{some_same}
 use Rattle.tta_bind.specs.declared.seats.Seat.{Seat}

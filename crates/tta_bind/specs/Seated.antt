@@ -2,17 +2,10 @@
 use Rattle.std.specs.Prelude.{◌≡◌, ℕ, zero, suc, ◌==◌, Bool, true, false, not, ◌&&◌, ◌||◌, if◌then◌else◌, List, [], ◌∷◌, length, Option, Some, None, slice_get}
 use Rattle.std.specs.Option.{option_map_or}
 use Rattle.tta_arch.specs.declared.ends.Source.TheVariants as source
-use Rattle.tta_arch.specs.declared.ends.Dest.{Dest}
+use Rattle.tta_bind.specs.Cited.{Dest, UnitOp, Machine, Target, Reg, Imm, Trigger, Control, Place, KeptOperand, KeptPort, same_place, op_at, same_op, ItemSource, Address, Item, Move, Long, source_of, target_of_item, writes, is_unguarded}
 use Rattle.tta_arch.specs.declared.ends.Dest.TheVariants as dest
-use Rattle.tta_arch.specs.declared.parts.UnitOp.{UnitOp}
-use Rattle.tta_arch.specs.Machine.{Machine}
-use Rattle.tta_arch.specs.Effects.{Target, Reg, Imm, Operand, Trigger, Control, Place, KeptOperand, KeptPort, same_place, op_at}
-use Rattle.tta_arch.specs.Rules.{same_op}
-use Rattle.tta_moves.specs.declared.items.ItemSource.{ItemSource}
-use Rattle.tta_moves.specs.declared.items.ItemSource.TheVariants.{Port, Address}
-use Rattle.tta_moves.specs.declared.items.Item.{Item}
-use Rattle.tta_moves.specs.declared.items.Item.TheVariants.{Move, Long}
-use Rattle.tta_moves.specs.Touches.{source_of, target_of_item, writes, is_unguarded}
+use Rattle.tta_arch.specs.Effects.{Operand}
+use Rattle.tta_moves.specs.declared.items.ItemSource.TheVariants.{Port}
 use Rattle.tta_bind.specs.declared.seats.Seat.{Seat}
 
 -- ---- an item on a seat

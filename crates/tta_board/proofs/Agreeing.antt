@@ -2,16 +2,9 @@
 use Rattle.std.proofs.Common.{◌≡◌, ℕ, List, [], ◌∷◌, length, map, Option, Some, sym, ap, ◌∙◌, subst}
 use Rattle.std.specs.Prelude.{slice_get}
 use Rattle.std.specs.List.{AllByRecursion}
-use Rattle.tta_list.specs.Prefix.{IsPrefixOf}
+use Rattle.tta_board.specs.Cited.{IsPrefixOf, Units, data_in, Core, AreComparable, cluster_output, group_output, IsCore, Pair, IsPair, core_in, core_memory, program_memory}
 use Rattle.tta_list.proofs.Lists.{all_one}
 use Rattle.tta_list.proofs.Sets.{over-length}
-use Rattle.tta_ops.specs.Units.{Units}
-use Rattle.tta_code.specs.Whole.{data_in}
-use Rattle.tta_cores.specs.declared.cores.Core.{Core}
-use Rattle.tta_cores.specs.Network.{AreComparable}
-use Rattle.tta_cores.specs.Cluster.{cluster_output}
-use Rattle.tta_cores.specs.Programs.{group_output}
-use Rattle.tta_cores.specs.Laws.{IsCore, Pair, IsPair, core_in, core_memory, program_memory}
 use Rattle.tta_cores.proofs.Pairs.{made_at, made_from, cores_agree}
 use Rattle.tta_board.specs.Board.{put_by}
 use Rattle.tta_board.specs.Laws.{AreSpaces, BoardAgrees}

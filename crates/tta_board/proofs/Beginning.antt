@@ -4,22 +4,11 @@ use Rattle.std.specs.Prelude.{slice_get, replicate, if◌then◌else◌}
 use Rattle.std.specs.Option.{option_map_or}
 use Rattle.std.specs.List.{AllByRecursion}
 use Rattle.tta_list.proofs.Lists.{all_one}
-use Rattle.tta_ops.specs.Units.{Units}
-use Rattle.tta_code.specs.Cycle.{State, start}
-use Rattle.tta_circuit.specs.Meaning.{Held, is_set, settled, clocked}
-use Rattle.tta_hardware.specs.Signals.{Code, Data, Frame, IsReset, PutWord}
-use Rattle.tta_hardware.specs.Fields.{word_of}
-use Rattle.tta_hardware.specs.Stands.{Hardware, StandsFor}
+use Rattle.tta_board.specs.Cited.{Units, State, start, Held, is_set, settled, clocked, Code, Data, Frame, IsReset, PutWord, word_of, Hardware, StandsFor, Pin, same_pin, queue_of, HasInside, BeginUpTo, Core, Joined, joined, output_of, cycles, first_states, IsCore}
 use Rattle.tta_hardware.proofs.Circuits.{reset_is, goes_not, data_stays, frame_stays, rom_stays}
-use Rattle.tta_queue.specs.Queue.{Pin, same_pin, queue_of}
 use Rattle.tta_queue.specs.Queue as queue
 use Rattle.tta_queue.specs.Laws as buffer
-use Rattle.tta_queue.specs.Laws.{HasInside, BeginUpTo}
 use Rattle.tta_queue.proofs.Running.{none_inside}
-use Rattle.tta_cores.specs.declared.cores.Core.{Core}
-use Rattle.tta_cores.specs.Network.{Joined, joined, output_of}
-use Rattle.tta_cores.specs.Cluster.{cycles, first_states}
-use Rattle.tta_cores.specs.Laws.{IsCore}
 use Rattle.tta_joint.proofs.Joining.{first_queued}
 use Rattle.tta_board.specs.Board.{Inputs, Powers, lines, core_first, core_after, board_at, put_by, AreBoardClocks}
 use Rattle.tta_board.specs.Laws.{StandForCores, AreSpaces, BoardBegins}

@@ -3,23 +3,10 @@ use Rattle.std.proofs.Common.{◌≡◌, ℕ, Bool, true, false, ◌&&◌, List,
 use Rattle.std.specs.Prelude.{slice_get, if◌then◌else◌}
 use Rattle.std.specs.Option.{option_map_or}
 use Rattle.std.specs.List.{AllByRecursion}
-use Rattle.tta_ops.specs.Units.{Units}
-use Rattle.tta_code.specs.Cycle.{State, next}
-use Rattle.tta_circuit.specs.Meaning.{is_set}
-use Rattle.tta_hardware.specs.Signals.{Signal as Named, Asks, Puts, PutWord}
-use Rattle.tta_hardware.specs.Stands.{Hardware, StandsFor}
-use Rattle.tta_hardware.specs.Theorem.{is_fault, is_waiting, HasStepped}
+use Rattle.tta_board.specs.Cited.{Units, State, next, is_set, Asks, Puts, PutWord, Hardware, StandsFor, is_fault, is_waiting, HasStepped, Pin, InData, OutReady, OutValid, OutData, gives, Core, Network, Joined, output_of, feeder_of, after_step, stepped, interleaved, cycles, IsCore, UsesQueues, is_among, StepAtOnce, seen, new_words, CoresClock, waiting_for, IsShown}
+use Rattle.tta_hardware.specs.Signals.{Signal as Named}
 use Rattle.tta_hardware.proofs.Circuits.{words_stay, data_stays, frame_stays, rom_stays}
-use Rattle.tta_queue.specs.Queue.{Pin, InData, OutReady, OutValid, OutData}
-use Rattle.tta_queue.specs.Laws.{gives}
-use Rattle.tta_cores.specs.declared.cores.Core.{Core}
-use Rattle.tta_cores.specs.Network.{Network, Joined, output_of, feeder_of, after_step, stepped, interleaved}
-use Rattle.tta_cores.specs.Cluster.{cycles}
-use Rattle.tta_cores.specs.Laws.{IsCore}
-use Rattle.tta_cores.specs.Queues.{UsesQueues}
 use Rattle.tta_cores.proofs.CoreQueues.{cores_use}
-use Rattle.tta_joint.specs.Joint.{is_among, StepAtOnce, seen, new_words, CoresClock, waiting_for}
-use Rattle.tta_joint.specs.Laws.{IsShown}
 use Rattle.tta_joint.proofs.AtOnce.{in_turn, none_in_turn, stepped_goes}
 use Rattle.tta_joint.proofs.Joining.{seen_first, joint_clock}
 use Rattle.tta_board.specs.Board.{Board, Inputs, lines, pins_of, AreWired, core_after, board_after}

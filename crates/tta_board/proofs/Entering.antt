@@ -1,16 +1,10 @@
 -- The words that come into a circuit, and whether it goes.
 use Rattle.std.proofs.Common.{◌≡◌, ℕ, Bool, true, false, not, ◌&&◌, ◌||◌, List, map, refl, sym, ap, ◌∙◌, arith}
 use Rattle.std.proofs.lemmas.Bool.{and_parts}
-use Rattle.tta_ops.specs.Units.{Units}
-use Rattle.tta_arch.specs.Machine.{Machine}
+use Rattle.tta_board.specs.Cited.{Units, Machine, is_set, given, settled, Store, HasHalted, IsOffered, Offer, IsReady, IsReset, Asks, Gives, Goes, Puts, same_signal, made_of, wire_names, wire, circuit_of, rank, Hardware}
 use Rattle.tta_code.specs.declared.code.Code.{Code as Program}
-use Rattle.tta_circuit.specs.Meaning.{is_set, given, settled}
 use Rattle.tta_circuit.proofs.Settling.{settled_solves}
-use Rattle.tta_hardware.specs.Signals.{Store, Signal as Named, HasHalted, IsOffered, Offer, IsReady, IsReset, Asks, Gives, Goes, Puts, same_signal}
-use Rattle.tta_hardware.specs.Wires.{made_of}
-use Rattle.tta_hardware.specs.Hardware.{wire_names, wire, circuit_of}
-use Rattle.tta_hardware.specs.Order.{rank}
-use Rattle.tta_hardware.specs.Stands.{Hardware}
+use Rattle.tta_hardware.specs.Signals.{Signal as Named}
 use Rattle.tta_hardware.proofs.Chained.{set_bit, going}
 use Rattle.tta_hardware.proofs.Named.{tells}
 use Rattle.tta_hardware.proofs.Ordered.{in_order, made_by}

@@ -3,7 +3,7 @@ use Rattle.std.proofs.Common.{◌≡◌, ℕ, zero, suc, ◌+◌, ◌<◌, Bool,
 use Rattle.std.specs.Prelude.{slice_get, if◌then◌else◌}
 use Rattle.std.specs.Option.{option_map_or}
 use Rattle.std.proofs.lemmas.Bool.{eq-eqb, ne_eqb}
-use Rattle.tta_joint.specs.Joint.{is_among, stand_once}
+use Rattle.tta_board.specs.Cited.{is_among, stand_once}
 
 module _ {A : Type 0} (test : ℕ → A → Bool) where
   -- the places from a number on at which a test holds

@@ -5,24 +5,12 @@ use Rattle.std.specs.Option.{option_map_or}
 use Rattle.std.specs.List.{AllByRecursion}
 use Rattle.std.proofs.lemmas.Bool.{false≢true}
 use Rattle.tta_list.proofs.Lists.{all_one}
-use Rattle.tta_ops.specs.Units.{Units}
-use Rattle.tta_code.specs.Cycle.{State, Outcome, Running, Halted, Waiting, Fault, next}
-use Rattle.tta_circuit.specs.Meaning.{is_set}
+use Rattle.tta_board.specs.Cited.{Units, State, Outcome, Running, Halted, Waiting, Fault, next, is_set, Hardware, is_halted, is_fault, is_waiting, HasStepped, Pin, Shows, Core, Network, Joined, after_step, cycles, IsCore, UsesQueues, seen, waiting_for}
 use Rattle.tta_hardware.specs.Signals.{Signal as Named}
-use Rattle.tta_hardware.specs.Stands.{Hardware, is_halted}
-use Rattle.tta_hardware.specs.Theorem.{is_fault, is_waiting, HasStepped}
 use Rattle.tta_hardware.proofs.Stepping.{one_clock}
 use Rattle.tta_hardware.proofs.Circuits.{is_settled, has_clocked, has_stored}
-use Rattle.tta_queue.specs.Queue.{Pin}
-use Rattle.tta_queue.specs.Laws.{Shows}
 use Rattle.tta_queue.proofs.Clocking.{queue_clocks}
-use Rattle.tta_cores.specs.declared.cores.Core.{Core}
-use Rattle.tta_cores.specs.Network.{Network, Joined, after_step}
-use Rattle.tta_cores.specs.Cluster.{cycles}
-use Rattle.tta_cores.specs.Laws.{IsCore}
-use Rattle.tta_cores.specs.Queues.{UsesQueues}
 use Rattle.tta_cores.proofs.CoreQueues.{cores_use}
-use Rattle.tta_joint.specs.Joint.{seen, waiting_for}
 use Rattle.tta_joint.proofs.AtOnce.{step_more}
 use Rattle.tta_joint.proofs.Joining.{seen_first}
 use Rattle.tta_board.specs.Board.{Board, Inputs, lines, pins_of, AreWired, core_after}

@@ -3,19 +3,9 @@ use Rattle.std.proofs.Common.{◌≡◌, ℕ, ◌+◌, Bool, true, false, ◌&&�
 use Rattle.std.specs.Prelude.{slice_get, if◌then◌else◌}
 use Rattle.std.specs.Option.{option_map_or}
 use Rattle.std.proofs.lemmas.Bool.{and_right, and_parts}
-use Rattle.tta_list.specs.Input.{left}
-use Rattle.tta_ops.specs.Units.{Units}
-use Rattle.tta_code.specs.Cycle.{State}
-use Rattle.tta_circuit.specs.Meaning.{is_set}
-use Rattle.tta_hardware.specs.Signals.{Signal as Named, IsReset, Asks, Goes, Puts}
-use Rattle.tta_hardware.specs.Theorem.{IsFed}
+use Rattle.tta_board.specs.Cited.{left, Units, State, is_set, IsReset, Asks, Goes, Puts, IsFed, Pin, InValid, OutReady, InReady, OutValid, OutData, takes, gives, Core, Network, feeder_of, cycles, is_among, seen}
+use Rattle.tta_hardware.specs.Signals.{Signal as Named}
 use Rattle.tta_hardware.proofs.Circuits.{reset_is}
-use Rattle.tta_queue.specs.Queue.{Pin, InValid, OutReady, InReady, OutValid, OutData}
-use Rattle.tta_queue.specs.Laws.{takes, gives}
-use Rattle.tta_cores.specs.declared.cores.Core.{Core}
-use Rattle.tta_cores.specs.Network.{Network, feeder_of}
-use Rattle.tta_cores.specs.Cluster.{cycles}
-use Rattle.tta_joint.specs.Joint.{is_among, seen}
 use Rattle.tta_board.specs.Board.{Board, Inputs, lines, pins_of, AreWired}
 use Rattle.tta_board.proofs.Going.{places_from, among_places}
 use Rattle.tta_board.proofs.Entering.{Enters, enters, ready_for}

@@ -4,19 +4,9 @@ use Rattle.std.specs.Prelude.{slice_get, if◌then◌else◌}
 use Rattle.std.specs.List.{AllByRecursion}
 use Rattle.std.proofs.lemmas.Bool.{ltb-true, ltb-false}
 use Rattle.std.proofs.lemmas.List.Sums.{fold-append}
-use Rattle.tta_ops.specs.Units.{Units}
-use Rattle.tta_code.specs.Cycle.{State}
-use Rattle.tta_circuit.specs.Meaning.{is_set}
-use Rattle.tta_hardware.specs.Signals.{Puts, PutWord}
-use Rattle.tta_hardware.specs.Theorem.{is_fault}
-use Rattle.tta_cores.specs.declared.cores.Core.{Core}
-use Rattle.tta_cores.specs.Network.{Network, Joined, joined, after_step, turn, interleaved, output_of}
-use Rattle.tta_cores.specs.Cluster.{cycles, first_states, cluster}
-use Rattle.tta_cores.specs.Laws.{IsCore}
-use Rattle.tta_cores.specs.Queues.{UsesQueues}
+use Rattle.tta_board.specs.Cited.{Units, State, is_set, Puts, PutWord, is_fault, Core, Network, Joined, joined, after_step, turn, interleaved, output_of, cycles, first_states, cluster, IsCore, UsesQueues, waiting_for}
 use Rattle.tta_cores.proofs.Clusters.{next_core, turn_here}
 use Rattle.tta_cores.proofs.CoreQueues.{cores_use}
-use Rattle.tta_joint.specs.Joint.{waiting_for}
 use Rattle.tta_joint.proofs.AtOnce.{stepped_goes}
 use Rattle.tta_board.specs.Board.{Inputs, Powers, lines, board_at, AreBoardClocks}
 use Rattle.tta_board.specs.Laws.{StandForCores, AreFine, HasClocked, AreSpaces, NeverFault, HasRun, BoardRuns}

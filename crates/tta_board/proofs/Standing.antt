@@ -5,19 +5,9 @@ use Rattle.std.proofs.lemmas.Bool.{false≢true, ltb-true}
 use Rattle.std.proofs.lemmas.Option.{none-some}
 use Rattle.std.proofs.lemmas.List.{length-replicate}
 use Rattle.std.proofs.lemmas.Nat.{pow_pos}
-use Rattle.tta_ops.specs.Units.{Units}
-use Rattle.tta_arch.specs.Machine.{Machine}
-use Rattle.tta_arch.specs.Effects.{KeptPort}
+use Rattle.tta_board.specs.Cited.{Units, Machine, KeptPort, IsLegalCode, State, Outcome, Running, Halted, Waiting, Fault, start, is_set, settled, clocked, Code, Data, Frame, Pc, Whole, HasHalted, Underway, Goal, Ends, Keeps, IsDue, Due, HasBegun, Raw, IsInside, IsReset, Goes, same_signal, same_store, word_of, longest, loads, circuit_of, Hardware, fresh_in, StandsFor, is_fault, is_waiting}
 use Rattle.tta_code.specs.declared.code.Code.{Code as Program}
-use Rattle.tta_code.specs.Legal.{IsLegalCode}
-use Rattle.tta_code.specs.Cycle.{State, Outcome, Running, Halted, Waiting, Fault, start}
-use Rattle.tta_circuit.specs.Meaning.{is_set, settled, clocked}
-use Rattle.tta_hardware.specs.Signals.{Code, Data, Frame, Signal as Named, Pc, Whole, HasHalted, Underway, Goal, Ends, Keeps, IsDue, Due, HasBegun, Raw, IsInside, IsReset, Goes, same_signal, same_store}
-use Rattle.tta_hardware.specs.Fields.{word_of}
-use Rattle.tta_hardware.specs.Wires.{longest, loads}
-use Rattle.tta_hardware.specs.Hardware.{circuit_of}
-use Rattle.tta_hardware.specs.Stands.{Hardware, fresh_in, StandsFor}
-use Rattle.tta_hardware.specs.Theorem.{is_fault, is_waiting}
+use Rattle.tta_hardware.specs.Signals.{Signal as Named}
 use Rattle.tta_hardware.proofs.Fresh.{same_fresh}
 use Rattle.tta_hardware.proofs.Fetching.{low, fetched_at}
 use Rattle.tta_hardware.proofs.Circuits.{goes_not, pc_begins, whole_begins, halted_begins, underway_begins, is_due_begins, data_stays, frame_stays, rom_stays}

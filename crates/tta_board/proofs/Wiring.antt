@@ -3,18 +3,11 @@ use Rattle.std.proofs.Common.{◌≡◌, ℕ, zero, suc, ◌<◌, ◌==◌, Bool
 use Rattle.std.specs.Prelude.{slice_get}
 use Rattle.std.specs.Option.{option_map_or}
 use Rattle.std.proofs.lemmas.Bool.{le-leb, leb-true}
-use Rattle.tta_ops.specs.Units.{Units}
-use Rattle.tta_code.specs.Cycle.{State}
-use Rattle.tta_circuit.specs.Meaning.{bit, is_set, settled}
-use Rattle.tta_hardware.specs.Signals.{Signal as Named, IsOffered, Offer, IsReady, IsReset, Asks, Goes, Puts, PutWord, same_signal}
-use Rattle.tta_hardware.specs.Hardware.{circuit_of}
+use Rattle.tta_board.specs.Cited.{Units, State, bit, is_set, settled, IsOffered, Offer, IsReady, IsReset, Asks, Goes, Puts, PutWord, same_signal, circuit_of, Pin, InValid, InData, OutReady, InReady, OutValid, OutData, same_pin, queue_of, Core, Network, feeder_of, cycles}
+use Rattle.tta_hardware.specs.Signals.{Signal as Named}
 use Rattle.tta_hardware.proofs.Chained.{set_bit}
-use Rattle.tta_queue.specs.Queue.{Pin, InValid, InData, OutReady, InReady, OutValid, OutData, same_pin, queue_of}
 use Rattle.tta_queue.specs.Queue as queue
 use Rattle.tta_queue.proofs.Clocking.{queue_looks}
-use Rattle.tta_cores.specs.declared.cores.Core.{Core}
-use Rattle.tta_cores.specs.Network.{Network, feeder_of}
-use Rattle.tta_cores.specs.Cluster.{cycles}
 use Rattle.tta_board.specs.Board.{Board, Inputs, Powers, have_room, pins_of, IsWiredCore, AreWired, board_after, board_at, AreBoardClocks}
 use Rattle.tta_board.specs.Laws.{BoardSettles}
 

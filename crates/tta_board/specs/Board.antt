@@ -1,16 +1,9 @@
 -- Machines as circuits that are joined by queues as circuits, all under one clock.
 use Rattle.std.specs.Prelude.{◌≡◌, ℕ, zero, suc, ◌<◌, ◌≤◌, ◌==◌, Bool, true, false, not, ◌&&◌, ◌||◌, List, [], ◌∷◌, ◌++◌, Option, Some, None, slice_get, if◌then◌else◌}
 use Rattle.std.specs.Option.{option_map_or}
-use Rattle.tta_ops.specs.Units.{Units}
-use Rattle.tta_circuit.specs.Meaning.{Held, is_set, settled, clocked, powered}
-use Rattle.tta_hardware.specs.Signals.{Signal as Named, IsOffered, Offer, IsReady, IsReset, Asks, Goes, Puts, PutWord, same_signal, same_store}
-use Rattle.tta_hardware.specs.Hardware.{circuit_of}
-use Rattle.tta_hardware.specs.Stands.{Hardware}
-use Rattle.tta_queue.specs.Queue.{Pin, InValid, InData, OutReady, InReady, OutValid, OutData, same_pin, queue_of}
+use Rattle.tta_board.specs.Cited.{Units, Held, is_set, settled, clocked, powered, IsOffered, Offer, IsReady, IsReset, Asks, Goes, Puts, PutWord, same_signal, same_store, circuit_of, Hardware, Pin, InValid, InData, OutReady, InReady, OutValid, OutData, same_pin, queue_of, Core, feeder_of, cycles}
+use Rattle.tta_hardware.specs.Signals.{Signal as Named}
 use Rattle.tta_queue.specs.Queue as queue
-use Rattle.tta_cores.specs.declared.cores.Core.{Core}
-use Rattle.tta_cores.specs.Network.{feeder_of}
-use Rattle.tta_cores.specs.Cluster.{cycles}
 
 -- ---- what there is
 

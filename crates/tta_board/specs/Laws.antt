@@ -1,20 +1,7 @@
 -- Circuits that are joined by queues do what a network of the machines does in some order of their cycles.
 use Rattle.std.specs.Prelude.{◌≡◌, ℕ, suc, ◌<◌, Bool, false, List, [], ◌∷◌, ◌++◌, map, Option, Some, None, length, slice_get, if◌then◌else◌}
 use Rattle.std.specs.List.{AllByRecursion}
-use Rattle.tta_list.specs.Prefix.{IsPrefixOf}
-use Rattle.tta_ops.specs.Units.{Units}
-use Rattle.tta_code.specs.Cycle.{State}
-use Rattle.tta_circuit.specs.Meaning.{is_set}
-use Rattle.tta_hardware.specs.Signals.{Goes, Puts, PutWord}
-use Rattle.tta_hardware.specs.Stands.{StandsFor}
-use Rattle.tta_hardware.specs.Theorem.{is_fault, is_waiting}
-use Rattle.tta_cores.specs.declared.cores.Core.{Core}
-use Rattle.tta_cores.specs.Network.{Joined, joined, output_of, after_step, interleaved, AreComparable}
-use Rattle.tta_cores.specs.Cluster.{cycles, first_states, cluster, cluster_output}
-use Rattle.tta_cores.specs.Programs.{group_output, IsGroupRest}
-use Rattle.tta_cores.specs.Laws.{IsCore, Pair, IsPair, core_in, core_memory, program_memory}
-use Rattle.tta_joint.specs.Joint.{is_among, waiting_for}
-use Rattle.tta_joint.specs.Laws.{AreQueued}
+use Rattle.tta_board.specs.Cited.{IsPrefixOf, Units, State, is_set, Goes, Puts, PutWord, StandsFor, is_fault, is_waiting, Core, Joined, joined, output_of, after_step, interleaved, AreComparable, cycles, first_states, cluster, cluster_output, group_output, IsGroupRest, IsCore, Pair, IsPair, core_in, core_memory, program_memory, is_among, waiting_for, AreQueued}
 use Rattle.tta_board.specs.Board.{Board, Inputs, Powers, lines, AreWired, board_after, board_at, put_by, AreBoardClocks}
 
 module _ (u : Units) (cores : List Core) (feeds : List (Option ℕ)) (memories : ℕ → List ℕ) (k : ℕ → ℕ) where

@@ -1,24 +1,7 @@
 -- What the compiler makes of a pair that is no direct one: what it is, and why there is no code.
 use Rattle.std.proofs.Common.{◌≡◌, ◌≤◌, Bool, true, false, List, None, Result, Ok, Err, refl, sym, ap, subst, ◌∙◌, length}
 use Rattle.std.specs.Prelude.{IfOk, IfErr, if◌then◌else◌, nat_lt}
-use Rattle.tta_ops.specs.Units.{Units}
-use Rattle.tta_arch.specs.Machine.{Machine}
-use Rattle.tta_arch.specs.Rules.{IsMachine}
-use Rattle.tta_arch.specs.Over.{StandsOver}
-use Rattle.tta_connect.specs.declared.choice.Choice.{Choice}
-use Rattle.tta_connect.specs.Coverage.{IsChoice, failed_rule}
-use Rattle.tta_program.specs.Program.{Program}
-use Rattle.tta_program.specs.Rules.{IsProgram}
-use Rattle.tta_alloc.specs.declared.homes.Homes.{Homes}
-use Rattle.tta_alloc.specs.Allotted.{AreAllotted}
-use Rattle.tta_code.specs.declared.code.Code.{Code}
-use Rattle.tta_code.specs.Legal.{IsLegalCode}
-use Rattle.tta_moves.specs.declared.items.Placed.{Placed}
-use Rattle.tta_select.specs.Select.{selected}
-use Rattle.tta_link.specs.Blocks.{AreBlocks, total_length}
-use Rattle.tta_link.specs.Linked.{IsLinked}
-use Rattle.tta_compose.specs.Needs.{are_offered}
-use Rattle.tta_compose.specs.Direct.{is_direct}
+use Rattle.tta_build.specs.Cited.{Units, Machine, IsMachine, StandsOver, Choice, IsChoice, failed_rule, Program, IsProgram, Homes, AreAllotted, Code, IsLegalCode, Placed, selected, AreBlocks, total_length, IsLinked, are_offered, is_direct}
 use Rattle.tta_build.specs.declared.error.BuildError.{BuildError}
 use Rattle.tta_build.specs.declared.register.Analysed.{Analysed}
 use Rattle.tta_build.specs.declared.register.Sharing.TheVariants.{InTurn, Least}

@@ -1,8 +1,6 @@
 -- Each cause but that of memory contradicts what is asked of a pair that is accepted and has room, or whose plain code fits.
 use Rattle.std.proofs.Common.{◌≡◌, ℕ, refl, arith}
-use Rattle.tta_ops.specs.Units.{Units}
-use Rattle.tta_arch.specs.Machine.{Machine}
-use Rattle.tta_program.specs.Program.{Program}
+use Rattle.tta_build.specs.Cited.{Units, Machine, Program}
 use Rattle.tta_build.specs.declared.error.BuildError.{BuildError}
 use Rattle.tta_build.specs.declared.error.BuildError.TheVariants.{NotCovered, NoUnit, FrameFull, CodeFull, NoMemory}
 use Rattle.tta_build.specs.Statement.{IsAccepted, Direct, Covered, HasCause}

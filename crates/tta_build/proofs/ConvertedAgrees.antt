@@ -2,17 +2,8 @@
 use Rattle.std.proofs.Common.{◌≡◌, ◌≤◌, ◌+◌, ◌*◌, ℕ, map, true, List, sym, ap, ◌∙◌, subst, arith}
 use Rattle.std.proofs.Math.Nat.{mul-le-mul_right}
 use Rattle.tta_list.proofs.Prefixes.{prefix_chain as prefix-more}
-use Rattle.tta_list.specs.Prefix.{IsPrefixOf}
-use Rattle.tta_ops.specs.Units.{Units}
-use Rattle.tta_arch.specs.Machine.{Machine}
-use Rattle.tta_list.specs.Laid.{over}
-use Rattle.tta_program.specs.Program.{Program, step_count, data_of, datum_of}
-use Rattle.tta_program.specs.Sequential.{seq, start}
+use Rattle.tta_build.specs.Cited.{IsPrefixOf, Units, Machine, over, Program, step_count, data_of, datum_of, seq, start, Whole, Agrees, AgreesAt, program_at, Converted, has_ended, RunAlike, IsAlike}
 use Rattle.tta_program.proofs.Growing.{later_output}
-use Rattle.tta_code.specs.Whole.{Whole}
-use Rattle.tta_agree.specs.Agrees.{Agrees, AgreesAt, program_at}
-use Rattle.tta_ifconv.specs.Converted.{Converted}
-use Rattle.tta_ifconv.specs.Statement.{has_ended, RunAlike, IsAlike}
 use Rattle.tta_ifconv.proofs.Runs.{run_alike}
 use Rattle.tta_ifconv.proofs.Listed.{no_greater}
 use Rattle.tta_ifconv.proofs.Ended.{later-end}

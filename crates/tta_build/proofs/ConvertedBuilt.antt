@@ -1,11 +1,6 @@
 -- What is built of a converted program, and why it is not built.
 use Rattle.std.proofs.Common.{◌≡◌, ℕ, refl, sym, ◌∙◌, arith}
-use Rattle.tta_ops.specs.Units.{Units}
-use Rattle.tta_arch.specs.Machine.{Machine}
-use Rattle.tta_program.specs.Program.{Program}
-use Rattle.tta_program.specs.Rules.{IsProgram}
-use Rattle.tta_code.specs.Whole.{Whole}
-use Rattle.tta_ifconv.specs.Converted.{Converted}
+use Rattle.tta_build.specs.Cited.{Units, Machine, Program, IsProgram, Whole, Converted}
 use Rattle.tta_build.proofs.ConvertedAgrees.{converted_agrees_holds}
 use Rattle.tta_build.specs.declared.error.BuildError.{BuildError}
 use Rattle.tta_build.specs.declared.error.BuildError.TheVariants.{NotCovered, NoUnit, FrameFull, CodeFull, NoMemory}

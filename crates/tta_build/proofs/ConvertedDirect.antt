@@ -2,17 +2,7 @@
 use Rattle.std.proofs.Common.{◌≡◌, ℕ, zero, suc, ◌+◌, ◌==◌, Bool, true, false, List, [], ◌∷◌, length, Some, refl, sym, ap, ◌∙◌}
 use Rattle.std.specs.Prelude.{◌&&◌, if◌then◌else◌, slice_get}
 use Rattle.std.specs.List.{list_all}
-use Rattle.tta_list.specs.Legs.{AllPairs}
-use Rattle.tta_arch.specs.Machine.{Machine}
-use Rattle.tta_program.specs.declared.operand.Src.TheVariants.{Word, Var}
-use Rattle.tta_program.specs.declared.step.Step.{Step}
-use Rattle.tta_program.specs.declared.step.Step.TheVariants.{Copy, Apply, Load, Store, Put, Take, If, Goto, When, Invoke, Return, Halt, End}
-use Rattle.tta_program.specs.declared.program.Proc.{Proc}
-use Rattle.tta_program.specs.Program.{Program}
-use Rattle.tta_program.specs.Direct.{only_constants}
-use Rattle.tta_compose.specs.Direct.{is_direct, is_direct_proc, is_brought}
-use Rattle.tta_ifconv.specs.Triangles.{is_triangle, is_dropped, place, renumbered, becomes}
-use Rattle.tta_ifconv.specs.Converted.{IsConverted, Converted}
+use Rattle.tta_build.specs.Cited.{AllPairs, Machine, Word, Var, Step, Copy, Apply, Load, Store, Put, Take, If, Goto, When, Invoke, Return, Halt, End, Proc, Program, only_constants, is_direct, is_direct_proc, is_brought, is_triangle, is_dropped, place, renumbered, becomes, IsConverted, Converted}
 use Rattle.tta_ifconv.proofs.Lists.{same_items}
 use Rattle.tta_ifconv.proofs.Places.{triangle_of, triangle_stays}
 use Rattle.tta_ifconv.proofs.Origins.{Kind, Joined, Renumbered, kind_of, Origin, origin_of}

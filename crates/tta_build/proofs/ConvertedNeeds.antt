@@ -6,24 +6,7 @@ use Rattle.std.specs.List.{AllByRecursion}
 use Rattle.std.proofs.lemmas.Bool.{cases_lt}
 use Rattle.std.proofs.lemmas.Option.{slice_get_within, get_or_from_slice_get}
 use Rattle.std.proofs.Math.Nat.{mul-le-mul}
-use Rattle.tta_list.specs.Legs.{AllPairs}
-use Rattle.tta_ops.specs.Units.{Units}
-use Rattle.tta_arch.specs.Machine.{Machine}
-use Rattle.tta_arch.specs.Effects.{first_some, or_else}
-use Rattle.tta_program.specs.declared.operand.Rel.{Rel}
-use Rattle.tta_program.specs.declared.operand.Rel.TheVariants.{Eq, Ne, Lt, Ge, Ltu, Geu}
-use Rattle.tta_program.specs.declared.step.Step.{Step}
-use Rattle.tta_program.specs.declared.step.Step.TheVariants.{Copy, If, Goto}
-use Rattle.tta_program.specs.declared.program.Proc.{Proc}
-use Rattle.tta_program.specs.Program.{Program, step_count}
-use Rattle.tta_program.specs.Rules.{IsProgram, IsProc}
-use Rattle.tta_program.specs.Sizes.{frame_need, var_count, arg_count}
-use Rattle.tta_select.specs.Select.{test_op}
-use Rattle.tta_sched.specs.Room.{longest}
-use Rattle.tta_compose.specs.Needs.{need_of, first_failing}
-use Rattle.tta_compose.specs.Room.{room_on}
-use Rattle.tta_ifconv.specs.Triangles.{opposite, is_triangle, is_dropped, place, renumbered, becomes}
-use Rattle.tta_ifconv.specs.Converted.{IsConverted, Converted}
+use Rattle.tta_build.specs.Cited.{AllPairs, Units, Machine, first_some, or_else, Rel, Eq, Ne, Lt, Ge, Ltu, Geu, Step, Copy, If, Goto, Proc, Program, step_count, IsProgram, IsProc, frame_need, var_count, arg_count, test_op, longest, need_of, first_failing, room_on, opposite, is_triangle, is_dropped, place, renumbered, becomes, IsConverted, Converted}
 use Rattle.tta_ifconv.proofs.Lists.{stands_within}
 use Rattle.tta_ifconv.proofs.Places.{triangle_of, place_rises}
 use Rattle.tta_ifconv.proofs.Origins.{Kind, Joined, Renumbered, kind_of, origin_of}

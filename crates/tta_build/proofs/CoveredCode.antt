@@ -4,38 +4,11 @@ use Rattle.std.specs.Prelude.{slice_get, IfOk, IfErr}
 use Rattle.std.specs.Option.{option_map_or}
 use Rattle.std.specs.List.{list_all}
 use Rattle.std.proofs.lemmas.Bool.{and_from}
-use Rattle.tta_ops.specs.Units.{Units}
-use Rattle.tta_arch.specs.Machine.{Machine}
-use Rattle.tta_arch.specs.Rules.{IsMachine}
-use Rattle.tta_arch.specs.Over.{StandsOver}
-use Rattle.tta_connect.specs.declared.choice.Choice.{Choice}
-use Rattle.tta_connect.specs.Coverage.{IsChoice, failed_rule, homes_of}
-use Rattle.tta_program.specs.Program.{Program}
-use Rattle.tta_program.specs.Rules.{IsProgram}
-use Rattle.tta_program.specs.Sizes.{frame_need}
-use Rattle.tta_rcode.specs.declared.code.Rir.{Rir}
-use Rattle.tta_alloc.specs.declared.homes.Homes.{Homes}
-use Rattle.tta_lower.specs.Law.{IsKnown}
+use Rattle.tta_build.specs.Cited.{Units, Machine, IsMachine, StandsOver, Choice, IsChoice, failed_rule, homes_of, Program, IsProgram, frame_need, Rir, Homes, IsKnown, AreAllotted, lowered, parts, known_by, BlockList, Placed, is_list, selected, fits_block, AreBlocks, IsLinked, Code, IsLegalCode, IsPair, AreStandIns, raw, are_offered, is_direct, AreRespected, IsPlan}
 use Rattle.tta_lower.specs.Statement.{IsCodeOf as IsRegisterCode}
-use Rattle.tta_alloc.specs.Allotted.{AreAllotted}
-use Rattle.tta_lower.specs.Lower.{lowered, parts}
-use Rattle.tta_lower.specs.Known.{first_by, known_by}
+use Rattle.tta_lower.specs.Known.{first_by}
 use Rattle.tta_lower.proofs.SameHomes.{answers_know}
-use Rattle.tta_moves.specs.declared.items.BlockList.{BlockList}
-use Rattle.tta_moves.specs.declared.items.Placed.{Placed}
-use Rattle.tta_moves.specs.Slots.{is_list}
-use Rattle.tta_select.specs.Select.{selected}
-use Rattle.tta_select.specs.Needs.{fits_block}
-use Rattle.tta_link.specs.Blocks.{AreBlocks}
-use Rattle.tta_link.specs.Linked.{IsLinked}
 use Rattle.tta_link.proofs.Whole.{linked_length}
-use Rattle.tta_code.specs.declared.code.Code.{Code}
-use Rattle.tta_code.specs.Legal.{IsLegalCode}
-use Rattle.tta_compose.specs.Compiler.{IsPair, AreStandIns, raw}
-use Rattle.tta_compose.specs.Needs.{are_offered}
-use Rattle.tta_compose.specs.Direct.{is_direct}
-use Rattle.tta_compose.specs.Linking.{AreRespected}
-use Rattle.tta_compose.specs.Packed.{IsPlan}
 use Rattle.tta_compose.proofs.Composed.{fit, lists_mean, selected_stand, stand_for}
 use Rattle.tta_compose.proofs.Planning.{lists_planned}
 use Rattle.tta_compose.proofs.Linking.{lists_link, lists_agree}

@@ -3,34 +3,8 @@ use Rattle.std.proofs.Common.{◌≡◌, ℕ, ◌+◌, ◌*◌, ◌<◌, ◌≤�
 use Rattle.std.specs.Prelude.{Result, Ok, Err, IfOk, IfErr}
 use Rattle.std.specs.List.{list_all}
 use Rattle.std.proofs.Math.Nat.{mul-le-mul}
-use Rattle.tta_ops.specs.Units.{Units}
-use Rattle.tta_arch.specs.Machine.{Machine}
-use Rattle.tta_arch.specs.Rules.{IsMachine}
-use Rattle.tta_program.specs.declared.operand.Src.TheVariants.{Var, Word}
-use Rattle.tta_program.specs.declared.step.Step.{Step}
-use Rattle.tta_program.specs.declared.step.Step.TheVariants.{Put, Halt, End}
-use Rattle.tta_program.specs.declared.program.Proc.{Proc}
-use Rattle.tta_program.specs.Program.{Program, step_count}
-use Rattle.tta_program.specs.Rules.{IsProgram}
-use Rattle.tta_program.specs.Sizes.{frame_need, arg_count, var_count}
-use Rattle.tta_program.specs.Direct.{only_constants, puts, alone}
-use Rattle.tta_rcode.specs.declared.code.Rir.{Rir}
-use Rattle.tta_rcode.specs.Direct.{one_block}
-use Rattle.tta_lower.specs.Lower.{lowered}
-use Rattle.tta_lower.specs.Known.{known_by}
-use Rattle.tta_moves.specs.declared.items.BlockList.{BlockList}
-use Rattle.tta_moves.specs.declared.items.Placed.{Placed}
-use Rattle.tta_moves.specs.Slots.{is_list}
-use Rattle.tta_select.specs.Direct.{out_of, direct_list}
-use Rattle.tta_link.specs.Blocks.{AreBlocks, total_length}
-use Rattle.tta_link.specs.Linked.{IsLinked}
+use Rattle.tta_build.specs.Cited.{Units, Machine, IsMachine, Var, Word, Step, Put, Halt, End, Proc, Program, step_count, IsProgram, frame_need, arg_count, var_count, only_constants, puts, alone, Rir, one_block, lowered, known_by, BlockList, Placed, is_list, out_of, direct_list, AreBlocks, total_length, IsLinked, longest, HasRoom, Code, IsLegalCode, is_direct, constants_of, list_of_direct, AreRespected, AreFirstFits, AreRoomy, room_on}
 use Rattle.tta_link.proofs.Whole.{linked_length}
-use Rattle.tta_sched.specs.Room.{longest, HasRoom}
-use Rattle.tta_code.specs.declared.code.Code.{Code}
-use Rattle.tta_code.specs.Legal.{IsLegalCode}
-use Rattle.tta_compose.specs.Direct.{is_direct, constants_of, list_of_direct}
-use Rattle.tta_compose.specs.Linking.{AreRespected, AreFirstFits}
-use Rattle.tta_compose.specs.Room.{AreRoomy, room_on}
 use Rattle.tta_compose.proofs.Pairs.{is_alone}
 use Rattle.tta_compose.proofs.Directly.{direct_lowers, direct_is_list, direct_links, direct_agrees}
 use Rattle.tta_compose.proofs.DirectPlan.{direct_plan}

@@ -1,10 +1,7 @@
 -- The blocks of a program so far, each with its trail and its placement.
 use Rattle.std.proofs.Common.{◌≡◌, ℕ, ◌+◌, List, [], ◌∷◌, ◌++◌, Some, sym, ap, subst, ◌∙◌, length, slice_get}
 use Rattle.std.proofs.lemmas.List.{length-map, map-append}
-use Rattle.tta_arch.specs.Machine.{Machine}
-use Rattle.tta_moves.specs.declared.items.BlockList.{BlockList}
-use Rattle.tta_moves.specs.declared.items.Placed.{Placed}
-use Rattle.tta_moves.specs.FirstFit.{IsFirstFit}
+use Rattle.tta_build.specs.Cited.{Machine, BlockList, Placed, IsFirstFit}
 use Rattle.tta_build.specs.declared.choosing.Chosen.{Chosen}
 use Rattle.tta_build.specs.declared.trail.Trail.{Trail}
 use Rattle.tta_build.specs.Candidates.{IsChosen}

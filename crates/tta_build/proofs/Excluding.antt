@@ -2,11 +2,7 @@
 use Rattle.std.proofs.Common.{◌≡◌, ◌<◌, ◌≤◌, ◌^◌, ℕ, List, true, refl, ap, arith, length}
 use Rattle.std.specs.Prelude.{◌==◌, Option, Some}
 use Rattle.std.proofs.lemmas.Bool.{eq-eqb, and_from}
-use Rattle.tta_ops.specs.Units.{Units}
-use Rattle.tta_arch.specs.Machine.{Machine}
-use Rattle.tta_program.specs.Program.{Program}
-use Rattle.tta_moves.specs.declared.items.Placed.{Placed}
-use Rattle.tta_link.specs.Blocks.{total_length}
+use Rattle.tta_build.specs.Cited.{Units, Machine, Program, Placed, total_length}
 use Rattle.tta_build.specs.declared.error.BuildError.{BuildError}
 use Rattle.tta_build.specs.declared.error.BuildError.TheVariants.{NotCovered, NoUnit, FrameFull, CodeFull, NoMemory}
 use Rattle.tta_build.specs.Statement.{IsAccepted, Direct, Covered, BreaksRule, LacksUnit, LacksFrames, HasCause}

@@ -5,13 +5,8 @@ use Rattle.std.specs.Option.{option_map_or}
 use Rattle.std.specs.List.{list_all}
 use Rattle.std.proofs.lemmas.Bool.{and_parts}
 use Rattle.tta_list.proofs.Lists.{list_all_one}
-use Rattle.tta_arch.specs.declared.parts.File.{File}
-use Rattle.tta_arch.specs.declared.parts.Socket.{Socket}
-use Rattle.tta_arch.specs.Machine.{Machine}
-use Rattle.tta_arch.specs.Rules.{IsMachine, is_file}
+use Rattle.tta_build.specs.Cited.{File, Socket, Machine, IsMachine, is_file, Choice, IsChoice, registers_from, is_home_file, homes_from}
 use Rattle.tta_arch.proofs.Sizes.{small_file}
-use Rattle.tta_connect.specs.declared.choice.Choice.{Choice}
-use Rattle.tta_connect.specs.Coverage.{IsChoice, registers_from, is_home_file, homes_from}
 use Rattle.tta_select.proofs.HomeLists.{registers_size as registers}
 
 -- at most 64 in each file

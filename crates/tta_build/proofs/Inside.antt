@@ -2,8 +2,7 @@
 use Rattle.std.proofs.Common.{◌≡◌, ℕ, Bool, true, false, List, [], ◌∷◌, None, refl}
 use Rattle.std.specs.Prelude.{nat_lt}
 use Rattle.std.specs.List.{list_all}
-use Rattle.tta_program.specs.declared.program.DataLine.{DataLine}
-use Rattle.tta_program.specs.Program.{first_outside}
+use Rattle.tta_build.specs.Cited.{DataLine, first_outside}
 
 -- where none lies outside, each address is below the number
 pub all_inside : (words : ℕ) (init : List DataLine) → first_outside words init ≡ None → list_all (λ (d : DataLine). nat_lt d.address words) init ≡ true

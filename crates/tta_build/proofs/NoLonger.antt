@@ -3,22 +3,9 @@ use Rattle.std.proofs.Common.{◌≡◌, ◌<◌, ◌≤◌, ℕ, suc, Bool, tru
 use Rattle.std.specs.Prelude.{if◌then◌else◌, nat_lt, map, Result, Ok, Err, IfOk, IfErr}
 use Rattle.std.proofs.lemmas.Bool.Decides.{nat_tests}
 use Rattle.std.proofs.lemmas.Option.{slice_get_within}
-use Rattle.tta_ops.specs.Units.{Units}
-use Rattle.tta_arch.specs.Machine.{Machine}
-use Rattle.tta_connect.specs.declared.choice.Choice.{Choice}
-use Rattle.tta_connect.specs.Coverage.{IsChoice}
-use Rattle.tta_program.specs.Program.{Program}
-use Rattle.tta_code.specs.declared.code.Code.{Code}
-use Rattle.tta_moves.specs.declared.items.BlockList.{BlockList}
-use Rattle.tta_moves.specs.declared.items.Placed.{Placed}
-use Rattle.tta_moves.specs.FirstFit.{IsFirstFit}
+use Rattle.tta_build.specs.Cited.{Units, Machine, Choice, IsChoice, Program, Code, BlockList, Placed, IsFirstFit, total_length, IsLinked, optimised, is_direct, AreFirstFits}
 use Rattle.tta_list.proofs.Lists.{element}
-use Rattle.tta_link.specs.Blocks.{total_length}
-use Rattle.tta_link.specs.Linked.{IsLinked}
 use Rattle.tta_link.proofs.Whole.{linked_length}
-use Rattle.tta_compose.specs.Compiler.{optimised}
-use Rattle.tta_compose.specs.Direct.{is_direct}
-use Rattle.tta_compose.specs.Linking.{AreFirstFits}
 use Rattle.tta_build.specs.declared.error.BuildError.{BuildError}
 use Rattle.tta_build.specs.declared.error.BuildError.TheVariants as cause
 use Rattle.tta_build.specs.declared.register.Sharing.TheVariants.{InTurn}

@@ -2,19 +2,9 @@
 use Rattle.std.proofs.Common.{◌≡◌, ℕ, ◌+◌, Bool, true, false, List, [], ◌∷◌, Option, Some, None, refl, sym, ◌∙◌, ap}
 use Rattle.std.specs.Prelude.{if◌then◌else◌, is_some, option_map, slice_index}
 use Rattle.std.specs.Option.{option_map_or}
-use Rattle.tta_ops.specs.Units.{Units}
-use Rattle.tta_arch.specs.declared.parts.Op.{Op}
+use Rattle.tta_build.specs.Cited.{Units, Op, Machine, first_some, has_bit, Choice, IsChoice, call_if, call_in, offered, offered_by, is_usable_at, Step, Proc, Program, is_offered, need_of, is_served, first_failing, unoffered_in, first_unoffered}
 use Rattle.tta_arch.specs.declared.parts.Unit.{Unit as OpUnit}
-use Rattle.tta_arch.specs.Machine.{Machine}
-use Rattle.tta_arch.specs.Effects.{first_some}
-use Rattle.tta_arch.specs.Joins.{has_bit}
-use Rattle.tta_connect.specs.declared.choice.Choice.{Choice}
-use Rattle.tta_connect.specs.Coverage.{IsChoice, first_by, call_if, call_in, offered, offered_by, is_usable_at}
-use Rattle.tta_program.specs.declared.step.Step.{Step}
-use Rattle.tta_program.specs.declared.program.Proc.{Proc}
-use Rattle.tta_program.specs.Program.{Program}
-use Rattle.tta_select.specs.Needs.{is_offered}
-use Rattle.tta_compose.specs.Needs.{need_of, is_served, first_failing, unoffered_in, first_unoffered}
+use Rattle.tta_connect.specs.Coverage.{first_by}
 use Rattle.tta_build.specs.Statement.{has_offer, is_supplied, unsupplied_in, unsupplied}
 
 -- units that are alike offer alike

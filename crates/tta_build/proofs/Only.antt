@@ -4,12 +4,7 @@ use Rattle.std.specs.Prelude.{◌&&◌, ◌==◌}
 use Rattle.std.proofs.lemmas.Bool.{cases_lt}
 use Rattle.std.proofs.lemmas.Bool.Decides.{nat_tests}
 use Rattle.std.proofs.lemmas.List.{length-drop}
-use Rattle.tta_program.specs.declared.operand.Src.TheVariants.{Var, Word}
-use Rattle.tta_program.specs.declared.step.Step.{Step}
-use Rattle.tta_program.specs.declared.step.Step.TheVariants.{Copy, Apply, Load, Take, Store, Put, If, Goto, When, Invoke, Return, Halt, End}
-use Rattle.tta_program.specs.Rules.{is_end}
-use Rattle.tta_program.specs.Direct.{only_constants}
-use Rattle.tta_compose.specs.Direct.{is_constant_or_halt}
+use Rattle.tta_build.specs.Cited.{Var, Word, Step, Copy, Apply, Load, Take, Store, Put, If, Goto, When, Invoke, Return, Halt, End, is_end, only_constants, is_constant_or_halt}
 use Rattle.tta_build.proofs.Served.{rest_from, nothing_left}
 
 -- a constant and a halt are passed over

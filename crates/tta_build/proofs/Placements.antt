@@ -1,15 +1,7 @@
 -- Placements of lists in a row, and the code that is linked from them.
 use Rattle.std.proofs.Common.{◌≡◌, ◌+◌, ℕ, zero, suc, ◌++◌, List, [], ◌∷◌, Some, ap, subst, ◌∙◌, length, slice_get}
 use Rattle.std.specs.Prelude.{◌<◌, ◌^◌, IfOk, IfErr, Result, Ok, Err}
-use Rattle.tta_arch.specs.Machine.{Machine}
-use Rattle.tta_code.specs.declared.code.Code.{Code}
-use Rattle.tta_code.specs.Legal.{IsLegalCode}
-use Rattle.tta_moves.specs.declared.items.BlockList.{BlockList}
-use Rattle.tta_moves.specs.declared.items.Placed.{Placed}
-use Rattle.tta_link.specs.Linked.{IsLinked}
-use Rattle.tta_link.specs.Blocks.{total_length}
-use Rattle.tta_compose.specs.Linking.{AreFirstFits}
-use Rattle.tta_compose.specs.Room.{AreRoomy}
+use Rattle.tta_build.specs.Cited.{Machine, Code, IsLegalCode, BlockList, Placed, IsLinked, total_length, AreFirstFits, AreRoomy}
 use Rattle.tta_build.specs.declared.error.BuildError.{BuildError}
 use Rattle.tta_build.specs.declared.error.BuildError.TheVariants.{CodeFull, NoMemory}
 use Rattle.tta_build.specs.Parts.{IsLinkCause}

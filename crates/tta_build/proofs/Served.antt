@@ -3,14 +3,7 @@ use Rattle.std.proofs.Common.{◌≡◌, ◌<◌, ◌≤◌, ◌+◌, ℕ, Bool,
 use Rattle.std.specs.Prelude.{if◌then◌else◌, ◌&&◌, IfNone, IfSome, option_map, slice_index}
 use Rattle.std.specs.List.{list_all}
 use Rattle.std.proofs.lemmas.List.{drop_all}
-use Rattle.tta_ops.specs.Units.{Units}
-use Rattle.tta_arch.specs.Machine.{Machine}
-use Rattle.tta_arch.specs.Effects.{first_some, or_else}
-use Rattle.tta_connect.specs.declared.choice.Choice.{Choice}
-use Rattle.tta_program.specs.declared.step.Step.{Step}
-use Rattle.tta_program.specs.declared.program.Proc.{Proc}
-use Rattle.tta_program.specs.Program.{Program}
-use Rattle.tta_compose.specs.Needs.{is_served, are_offered, first_failing, unoffered_in, first_unoffered}
+use Rattle.tta_build.specs.Cited.{Units, Machine, first_some, or_else, Choice, Step, Proc, Program, is_served, are_offered, first_failing, unoffered_in, first_unoffered}
 
 -- ---- along a list
 

@@ -4,17 +4,8 @@ use Rattle.std.specs.Prelude.{if◌then◌else◌, nat_lt}
 use Rattle.std.proofs.lemmas.Bool.Decides.{nat_tests}
 use Rattle.std.proofs.lemmas.List.{map-append}
 use Rattle.std.proofs.lemmas.Option.{slice_get_within}
-use Rattle.tta_arch.specs.Machine.{Machine}
-use Rattle.tta_moves.specs.declared.items.BlockList.{BlockList}
-use Rattle.tta_moves.specs.declared.items.Placed.{Placed}
-use Rattle.tta_moves.specs.Bounds.{Respects}
-use Rattle.tta_moves.specs.FirstFit.{IsFirstFit}
+use Rattle.tta_build.specs.Cited.{Machine, BlockList, Placed, Respects, IsFirstFit, HasRoom, AreStandIns, optimised, HasForms, AreFirstFits, AreRoomy}
 use Rattle.tta_list.proofs.Lists.{slice_get-push, slice_get-longer, element, item_behind as last_there, length_more as push_length}
-use Rattle.tta_sched.specs.Room.{HasRoom}
-use Rattle.tta_compose.specs.Compiler.{AreStandIns, optimised}
-use Rattle.tta_compose.specs.Planned.{HasForms}
-use Rattle.tta_compose.specs.Linking.{AreFirstFits}
-use Rattle.tta_compose.specs.Room.{AreRoomy}
 use Rattle.tta_build.specs.Candidates.{IsCandidate, IsShortest, IsChosen, AreChosen}
 use Rattle.tta_build.specs.declared.choosing.Chosen.{Chosen}
 use Rattle.tta_build.specs.declared.trail.Trail.{Trail}

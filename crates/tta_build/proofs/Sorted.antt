@@ -8,12 +8,7 @@ use Rattle.std.proofs.lemmas.Bool.Decides.{nat_tests}
 use Rattle.std.proofs.lemmas.List.{same_lists, get_or_default, get_or-set_same, get_or-set_other, length-set}
 use Rattle.std.proofs.lemmas.List.Sums.{sum_by-cons}
 use Rattle.std.proofs.lemmas.List.Sorted.{sum_by-IsPermutation}
-use Rattle.tta_program.specs.declared.program.DataLine.{DataLine}
-use Rattle.tta_list.specs.Laid.{Laid, over}
-use Rattle.tta_program.specs.Program.{Program, datum_of, data_of}
-use Rattle.tta_program.specs.Rules.{IsProgram, is_datum, are_apart}
-use Rattle.tta_code.specs.declared.whole.Datum.{Datum}
-use Rattle.tta_code.specs.Whole.{laid_by, rises_from, rises, fits}
+use Rattle.tta_build.specs.Cited.{DataLine, Laid, over, Program, datum_of, data_of, IsProgram, is_datum, are_apart, Datum, laid_by, rises_from, rises, fits}
 use Rattle.tta_build.specs.Data.{datum_in}
 
 -- ---- how often an address stands, and with which values

@@ -3,13 +3,9 @@ use Rattle.std.proofs.Common.{◌≡◌, ℕ, zero, suc, true, List, [], ◌∷�
 use Rattle.std.specs.Prelude.{IfSome, unwrap_or, Result, Ok, OnOk}
 use Rattle.std.specs.Option.{option_map_or}
 use Rattle.tta_list.proofs.Lists.{slice_get-push}
-use Rattle.tta_arch.specs.Machine.{Machine}
-use Rattle.tta_moves.specs.declared.items.BlockList.{BlockList}
-use Rattle.tta_moves.specs.Slots.{is_list}
-use Rattle.tta_optim.specs.Kept.{IsStandIn}
+use Rattle.tta_build.specs.Cited.{Machine, BlockList, is_list, IsStandIn, optimised}
 use Rattle.tta_optim.proofs.StandIns.{stands_itself, stand_in_next}
 use Rattle.tta_optim.proofs.Passing.{passed_is}
-use Rattle.tta_compose.specs.Compiler.{optimised}
 use Rattle.tta_compose.proofs.Composed.{optimised_stand}
 use Rattle.tta_build.specs.Candidates.{IsCandidate, AreCandidates}
 use Rattle.tta_build.specs.declared.trail.Ordered.{Ordered}

@@ -2,13 +2,7 @@
 use Rattle.std.proofs.Common.{◌≡◌, ℕ, List, Result, Ok, Err, length, sym, subst}
 use Rattle.std.specs.Prelude.{IfOk}
 use Rattle.std.specs.declared.alloc.AllocError.{AllocError}
-use Rattle.tta_ops.specs.Units.{Units}
-use Rattle.tta_arch.specs.Machine.{Machine}
-use Rattle.tta_connect.specs.declared.choice.Choice.{Choice}
-use Rattle.tta_program.specs.Program.{Program}
-use Rattle.tta_alloc.specs.declared.homes.Homes.{Homes}
-use Rattle.tta_alloc.specs.Allotted.{AreAllotted}
-use Rattle.tta_moves.specs.declared.items.Placed.{Placed}
+use Rattle.tta_build.specs.Cited.{Units, Machine, Choice, Program, Homes, AreAllotted, Placed}
 use Rattle.tta_build.specs.declared.register.Sharing.{Sharing}
 use Rattle.tta_build.specs.Sharing.{AreGivenBy, AreHomesBy}
 use Rattle.tta_build.specs.Compiled.{AreChosenBy}

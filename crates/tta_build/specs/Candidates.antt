@@ -1,13 +1,6 @@
 -- The candidates of a block, and which of their placements stays.
 use Rattle.std.specs.Prelude.{◌≡◌, ℕ, ◌<◌, ◌≤◌, List, length, Some, slice_get}
-use Rattle.tta_arch.specs.Machine.{Machine}
-use Rattle.tta_moves.specs.declared.items.BlockList.{BlockList}
-use Rattle.tta_moves.specs.declared.items.Placed.{Placed}
-use Rattle.tta_optim.specs.Kept.{IsStandIn}
-use Rattle.tta_compose.specs.Compiler.{optimised}
-use Rattle.tta_compose.specs.Planned.{HasForms}
-use Rattle.tta_compose.specs.Linking.{AreFirstFits}
-use Rattle.tta_compose.specs.Room.{AreRoomy}
+use Rattle.tta_build.specs.Cited.{Machine, BlockList, Placed, IsStandIn, optimised, HasForms, AreFirstFits, AreRoomy}
 
 -- a list is a candidate of a block: it may be placed for the block's list, and is in all forms
 pub record IsCandidate (m : Machine) (b l : BlockList) : Type 0 where

@@ -1,24 +1,6 @@
 -- What is compiled of a pair: the placements of which its code consists, and how many words they take.
 use Rattle.std.specs.Prelude.{◌≡◌, ◌≤◌, true, false, ℕ, List, [], ◌∷◌, length}
-use Rattle.tta_ops.specs.Units.{Units}
-use Rattle.tta_arch.specs.Machine.{Machine}
-use Rattle.tta_connect.specs.declared.choice.Choice.{Choice}
-use Rattle.tta_connect.specs.Coverage.{IsChoice}
-use Rattle.tta_program.specs.Program.{Program}
-use Rattle.tta_program.specs.Sizes.{frame_need}
-use Rattle.tta_flow.specs.declared.flow.Block.{Block}
-use Rattle.tta_flow.specs.declared.live.Live.{Live}
-use Rattle.tta_flow.specs.Blocks.{IsFlow}
-use Rattle.tta_flow.specs.Live.{IsLive}
-use Rattle.tta_alloc.specs.declared.homes.Homes.{Homes}
-use Rattle.tta_alloc.specs.Allotted.{AreAllotted}
-use Rattle.tta_lower.specs.Known.{known_by}
-use Rattle.tta_moves.specs.declared.items.BlockList.{BlockList}
-use Rattle.tta_moves.specs.declared.items.Placed.{Placed}
-use Rattle.tta_link.specs.Blocks.{total_length}
-use Rattle.tta_compose.specs.Compiler.{raw}
-use Rattle.tta_compose.specs.Direct.{is_direct, list_of_direct}
-use Rattle.tta_compose.specs.Linking.{AreFirstFits}
+use Rattle.tta_build.specs.Cited.{Units, Machine, Choice, IsChoice, Program, frame_need, Block, Live, IsFlow, IsLive, Homes, AreAllotted, known_by, BlockList, Placed, total_length, raw, is_direct, list_of_direct, AreFirstFits}
 use Rattle.tta_build.specs.declared.register.Sharing.{Sharing}
 use Rattle.tta_build.specs.Sharing.{AreGivenBy}
 use Rattle.tta_build.specs.Candidates.{AreChosen}

@@ -1,12 +1,7 @@
 -- For which pairs `build` has code: where a pair is accepted and has room, or its plain code fits, nothing but memory can be
 -- wanting.
 use Rattle.std.specs.Prelude.{◌≡◌, ◌≤◌, ◌^◌, List}
-use Rattle.tta_ops.specs.Units.{Units}
-use Rattle.tta_arch.specs.Machine.{Machine}
-use Rattle.tta_program.specs.Program.{Program}
-use Rattle.tta_moves.specs.declared.items.Placed.{Placed}
-use Rattle.tta_link.specs.Blocks.{total_length}
-use Rattle.tta_compose.specs.Room.{room_on}
+use Rattle.tta_build.specs.Cited.{Units, Machine, Program, Placed, total_length, room_on}
 use Rattle.tta_build.specs.declared.error.BuildError.{BuildError}
 use Rattle.tta_build.specs.declared.error.BuildError.TheVariants.{NoMemory}
 use Rattle.tta_build.specs.Plain.{IsPlainCode}

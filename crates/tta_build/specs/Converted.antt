@@ -1,16 +1,6 @@
 -- What `build_converted` answers: code of the converted program, which does what the program does.
 use Rattle.std.specs.Prelude.{◌≡◌, ℕ, ◌<◌, ◌≤◌, ◌^◌, ◌*◌, List, length}
-use Rattle.tta_ops.specs.Units.{Units}
-use Rattle.tta_arch.specs.Machine.{Machine}
-use Rattle.tta_program.specs.Program.{Program, step_count}
-use Rattle.tta_code.specs.Whole.{Whole}
-use Rattle.tta_code.specs.Legal.{IsLegalWhole}
-use Rattle.tta_agree.specs.Agrees.{Agrees, AgreesAt}
-use Rattle.tta_moves.specs.declared.items.Placed.{Placed}
-use Rattle.tta_link.specs.Blocks.{total_length}
-use Rattle.tta_compose.specs.Room.{room_on}
-use Rattle.tta_compose.specs.Packed.{IsPacked, IsLength}
-use Rattle.tta_ifconv.specs.Converted.{Converted}
+use Rattle.tta_build.specs.Cited.{Units, Machine, Program, step_count, Whole, IsLegalWhole, Agrees, AgreesAt, Placed, total_length, room_on, IsPacked, IsLength, Converted}
 use Rattle.tta_build.specs.declared.error.BuildError.{BuildError}
 use Rattle.tta_build.specs.declared.error.BuildError.TheVariants.{NotCovered, NoUnit, FrameFull, CodeFull, NoMemory}
 use Rattle.tta_build.specs.Plain.{IsPlainCode}

@@ -1,6 +1,5 @@
 -- The data of a program as the data of its code.
-use Rattle.tta_program.specs.declared.program.DataLine.{DataLine}
-use Rattle.tta_code.specs.declared.whole.Datum.{Datum}
+use Rattle.tta_build.specs.Cited.{DataLine, Datum}
 
 -- a line of data without its line number
 abbrev pub datum_in : DataLine → Datum

@@ -1,5 +1,5 @@
 -- What becomes of an error of lowering.
-use Rattle.tta_lower.specs.declared.error.LowerError.{LowerError}
+use Rattle.tta_build.specs.Cited.{LowerError}
 use Rattle.tta_lower.specs.declared.error.LowerError.TheVariants as lower
 use Rattle.tta_build.specs.declared.error.BuildError.{BuildError}
 use Rattle.tta_build.specs.declared.error.BuildError.TheVariants.{FrameFull, NoMemory}

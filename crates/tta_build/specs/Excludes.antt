@@ -1,9 +1,6 @@
 -- Which answers of `build` exclude each other.
 use Rattle.std.specs.Prelude.{◌≡◌, ◌==◌, ◌&&◌, ℕ, Bool, true, false}
-use Rattle.tta_ops.specs.Units.{Units}
-use Rattle.tta_arch.specs.Machine.{Machine}
-use Rattle.tta_program.specs.Program.{Program}
-use Rattle.tta_code.specs.Whole.{Whole}
+use Rattle.tta_build.specs.Cited.{Units, Machine, Program, Whole}
 use Rattle.tta_build.specs.declared.error.BuildError.{BuildError}
 use Rattle.tta_build.specs.declared.error.BuildError.TheVariants.{NotCovered, NoUnit, FrameFull, CodeFull, NoMemory}
 use Rattle.tta_build.specs.Statement.{IsBuilt, LacksRoom, HasCause}

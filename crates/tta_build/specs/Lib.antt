@@ -1,3 +1,4 @@
+pub mod Cited
 pub mod Plain
 pub mod Compiled
 pub mod Statement

@@ -1,9 +1,6 @@
 -- A program on the way to its register code.
 use Rattle.std.specs.Prelude.{ℕ}
-use Rattle.tta_program.specs.Program.{Program}
-use Rattle.tta_flow.specs.Blocks.{IsFlow}
-use Rattle.tta_flow.specs.Live.{IsLive}
-use Rattle.tta_alloc.specs.Allotted.{AreAllotted}
+use Rattle.tta_build.specs.Cited.{Program, IsFlow, IsLive, AreAllotted}
 use Rattle.tta_lower.specs.Statement.{IsCodeOf}
 use Rattle.tta_build.specs.declared.register.Analysed.{Analysed}
 use Rattle.tta_build.specs.declared.register.Lowered.{Lowered}

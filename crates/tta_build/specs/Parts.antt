@@ -1,32 +1,7 @@
 -- What the parts of `build` give one another.
 use Rattle.std.specs.Prelude.{◌≡◌, ◌<◌, ◌≤◌, ◌^◌, ℕ, List, [], ◌∷◌, length, Some, slice_get}
-use Rattle.tta_ops.specs.Units.{Units}
-use Rattle.tta_arch.specs.Machine.{Machine}
-use Rattle.tta_connect.specs.declared.choice.Choice.{Choice}
-use Rattle.tta_list.specs.Laid.{over}
-use Rattle.tta_program.specs.Program.{Program, data_of}
-use Rattle.tta_rcode.specs.declared.code.Rir.{Rir}
-use Rattle.tta_flow.specs.declared.flow.Block.{Block}
-use Rattle.tta_flow.specs.declared.live.Live.{Live}
-use Rattle.tta_flow.specs.Blocks.{IsFlow}
-use Rattle.tta_flow.specs.Live.{IsLive}
-use Rattle.tta_alloc.specs.declared.homes.Homes.{Homes}
-use Rattle.tta_alloc.specs.Allotted.{AreAllotted}
+use Rattle.tta_build.specs.Cited.{Units, Machine, Choice, over, Program, data_of, Rir, Block, Live, IsFlow, IsLive, Homes, AreAllotted, BlockList, Placed, total_length, Code, Datum, laid_by, IsLegalCode, Agrees, AreStandIns, list_of_direct, HasForms, AreFirstFits, room_on, AreRoomy, IsPacked, IsLength}
 use Rattle.tta_lower.specs.Statement.{IsCodeOf}
-use Rattle.tta_moves.specs.declared.items.BlockList.{BlockList}
-use Rattle.tta_moves.specs.declared.items.Placed.{Placed}
-use Rattle.tta_link.specs.Blocks.{total_length}
-use Rattle.tta_code.specs.declared.code.Code.{Code}
-use Rattle.tta_code.specs.declared.whole.Datum.{Datum}
-use Rattle.tta_code.specs.Whole.{laid_by}
-use Rattle.tta_code.specs.Legal.{IsLegalCode}
-use Rattle.tta_agree.specs.Agrees.{Agrees}
-use Rattle.tta_compose.specs.Compiler.{AreStandIns}
-use Rattle.tta_compose.specs.Direct.{list_of_direct}
-use Rattle.tta_compose.specs.Planned.{HasForms}
-use Rattle.tta_compose.specs.Linking.{AreFirstFits}
-use Rattle.tta_compose.specs.Room.{room_on, AreRoomy}
-use Rattle.tta_compose.specs.Packed.{IsPacked, IsLength}
 use Rattle.tta_build.specs.declared.error.BuildError.{BuildError}
 use Rattle.tta_build.specs.declared.error.BuildError.TheVariants.{CodeFull, NoMemory}
 use Rattle.tta_build.specs.Candidates.{AreChosen}

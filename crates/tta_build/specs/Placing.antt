@@ -1,13 +1,6 @@
 -- Which candidates of a block are made, which of their placements stays, and the lists and placements of all blocks.
 use Rattle.std.specs.Prelude.{◌≡◌, ℕ, List, Some, IfSome, slice_get}
-use Rattle.tta_arch.specs.Machine.{Machine}
-use Rattle.tta_moves.specs.declared.items.BlockList.{BlockList}
-use Rattle.tta_moves.specs.Bounds.{Respects}
-use Rattle.tta_moves.specs.FirstFit.{IsFirstFit}
-use Rattle.tta_sched.specs.Room.{HasRoom}
-use Rattle.tta_optim.specs.Kept.{IsStandIn}
-use Rattle.tta_compose.specs.Compiler.{optimised}
-use Rattle.tta_compose.specs.Linking.{AreFirstFits}
+use Rattle.tta_build.specs.Cited.{Machine, BlockList, Respects, IsFirstFit, HasRoom, IsStandIn, optimised, AreFirstFits}
 use Rattle.tta_build.specs.declared.trail.Trail.{Trail}
 use Rattle.tta_build.specs.declared.candidates.Bound.{Bound}
 use Rattle.tta_build.specs.declared.candidates.Choices.{Choices}

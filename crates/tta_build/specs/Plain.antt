@@ -1,23 +1,6 @@
 -- The plain code of a program. What `build` makes is never longer.
 use Rattle.std.specs.Prelude.{◌≡◌, ◌≤◌, true, false, List, [], ◌∷◌, map, length}
-use Rattle.tta_ops.specs.Units.{Units}
-use Rattle.tta_arch.specs.Machine.{Machine}
-use Rattle.tta_connect.specs.declared.choice.Choice.{Choice}
-use Rattle.tta_connect.specs.Coverage.{IsChoice}
-use Rattle.tta_program.specs.Program.{Program}
-use Rattle.tta_flow.specs.declared.flow.Block.{Block}
-use Rattle.tta_flow.specs.declared.live.Live.{Live}
-use Rattle.tta_flow.specs.Blocks.{IsFlow}
-use Rattle.tta_flow.specs.Live.{IsLive}
-use Rattle.tta_alloc.specs.declared.homes.Homes.{Homes}
-use Rattle.tta_alloc.specs.Turns.{AreInTurn}
-use Rattle.tta_lower.specs.Known.{known_by}
-use Rattle.tta_moves.specs.declared.items.BlockList.{BlockList}
-use Rattle.tta_moves.specs.declared.items.Placed.{Placed}
-use Rattle.tta_moves.specs.FirstFit.{IsFirstFit}
-use Rattle.tta_compose.specs.Compiler.{optimised, raw}
-use Rattle.tta_compose.specs.Direct.{is_direct, list_of_direct}
-use Rattle.tta_compose.specs.Linking.{AreFirstFits}
+use Rattle.tta_build.specs.Cited.{Units, Machine, Choice, IsChoice, Program, Block, Live, IsFlow, IsLive, Homes, AreInTurn, known_by, BlockList, Placed, IsFirstFit, optimised, raw, is_direct, list_of_direct, AreFirstFits}
 
 -- Placements of a program are plain for what is chosen on a machine: home registers are given in turn, register code is
 -- lowered by these homes, lists are selected from it, each list goes through the passes, and each is placed by first fit.

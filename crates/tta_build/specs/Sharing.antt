@@ -1,11 +1,6 @@
 -- How the variables of a program share the home registers.
 use Rattle.std.specs.Prelude.{ℕ, length}
-use Rattle.tta_connect.specs.declared.choice.Choice.{Choice}
-use Rattle.tta_program.specs.Program.{Program}
-use Rattle.tta_alloc.specs.declared.homes.Homes.{Homes}
-use Rattle.tta_alloc.specs.Homes.{IsScan}
-use Rattle.tta_alloc.specs.Turns.{AreInTurn}
-use Rattle.tta_alloc.specs.Allotted.{AreAllotted}
+use Rattle.tta_build.specs.Cited.{Choice, Program, Homes, IsScan, AreInTurn, AreAllotted}
 use Rattle.tta_build.specs.declared.register.Sharing.{Sharing}
 use Rattle.tta_build.specs.declared.register.Sharing.TheVariants.{InTurn, Least}
 

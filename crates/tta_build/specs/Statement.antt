@@ -1,22 +1,7 @@
 -- What `build` answers: code that does what the program does, or why there is none.
 use Rattle.std.specs.Prelude.{◌≡◌, ℕ, ◌<◌, ◌≤◌, ◌^◌, Bool, true, false, Option, Some, None, is_some, option_map, slice_index, length}
 use Rattle.std.specs.Option.{option_map_or}
-use Rattle.tta_ops.specs.Units.{Units}
-use Rattle.tta_arch.specs.declared.parts.Op.{Op}
-use Rattle.tta_arch.specs.Machine.{Machine}
-use Rattle.tta_arch.specs.Effects.{first_some}
-use Rattle.tta_connect.specs.Coverage.{hub_of, offered_by, is_usable_at, failed_rule}
-use Rattle.tta_program.specs.declared.step.Step.{Step}
-use Rattle.tta_program.specs.declared.program.Proc.{Proc}
-use Rattle.tta_program.specs.Program.{Program}
-use Rattle.tta_program.specs.Sizes.{frame_need}
-use Rattle.tta_code.specs.Whole.{Whole}
-use Rattle.tta_code.specs.Legal.{IsLegalWhole}
-use Rattle.tta_agree.specs.Agrees.{Agrees}
-use Rattle.tta_compose.specs.Needs.{need_of, first_failing}
-use Rattle.tta_compose.specs.Direct.{is_direct}
-use Rattle.tta_compose.specs.Room.{room_on}
-use Rattle.tta_compose.specs.Packed.{IsPacked, IsLength}
+use Rattle.tta_build.specs.Cited.{Units, Op, Machine, first_some, hub_of, offered_by, is_usable_at, failed_rule, Step, Proc, Program, frame_need, Whole, IsLegalWhole, Agrees, need_of, first_failing, is_direct, room_on, IsPacked, IsLength}
 use Rattle.tta_build.specs.Compiled.{CompilesTo}
 use Rattle.tta_build.specs.Value.{IsMadeOf}
 use Rattle.tta_build.specs.declared.error.BuildError.{BuildError}

@@ -1,10 +1,7 @@
 -- How the list that is placed for a block came of the selected one.
 use Rattle.std.specs.Prelude.{◌≡◌, ℕ, List, length, map, Option, Some, IfSome, slice_get, unwrap_or}
 use Rattle.std.specs.Option.{option_map_or}
-use Rattle.tta_arch.specs.Machine.{Machine}
-use Rattle.tta_moves.specs.declared.items.BlockList.{BlockList}
-use Rattle.tta_optim.specs.Kept.{IsStandIn}
-use Rattle.tta_optim.specs.Passed.{IsPassed}
+use Rattle.tta_build.specs.Cited.{Machine, BlockList, IsStandIn, IsPassed}
 use Rattle.tta_build.specs.declared.trail.Ordered.{Ordered}
 use Rattle.tta_build.specs.declared.trail.Round.{Round}
 use Rattle.tta_build.specs.declared.trail.Rounds.{Rounds}

@@ -1,18 +1,7 @@
 -- What the compiler makes of a program, as one value: how its parts hang together.
 use Rattle.std.specs.Prelude.{◌≡◌, true, false, [], ◌∷◌, Some, None}
-use Rattle.tta_ops.specs.Units.{Units}
-use Rattle.tta_arch.specs.Machine.{Machine}
-use Rattle.tta_connect.specs.declared.choice.Choice.{Choice}
-use Rattle.tta_connect.specs.Coverage.{IsChoice}
-use Rattle.tta_program.specs.Program.{Program}
-use Rattle.tta_alloc.specs.declared.homes.Homes.{Homes}
+use Rattle.tta_build.specs.Cited.{Units, Machine, Choice, IsChoice, Program, Homes, selected, Code, IsLinked, is_direct, list_of_direct, AreFirstFits, AreRoomy}
 use Rattle.tta_lower.specs.Statement.{IsCodeOf}
-use Rattle.tta_select.specs.Select.{selected}
-use Rattle.tta_code.specs.declared.code.Code.{Code}
-use Rattle.tta_link.specs.Linked.{IsLinked}
-use Rattle.tta_compose.specs.Direct.{is_direct, list_of_direct}
-use Rattle.tta_compose.specs.Linking.{AreFirstFits}
-use Rattle.tta_compose.specs.Room.{AreRoomy}
 use Rattle.tta_build.specs.declared.register.Sharing.{Sharing}
 use Rattle.tta_build.specs.declared.register.Analysed.{Analysed}
 use Rattle.tta_build.specs.declared.choosing.Planned.{Planned}

@@ -6,12 +6,8 @@ use Rattle.std.specs.Option.{option_map_or}
 use Rattle.std.specs.List.{list_any}
 use Rattle.std.proofs.lemmas.List.Folds.{list_any-append}
 use Rattle.std.proofs.lemmas.Option.{slice_get_within}
-use Rattle.tta_arch.specs.declared.parts.Template.{Template}
-use Rattle.tta_arch.specs.Machine.{Machine}
-use Rattle.tta_arch.specs.Effects.{KeptImm, same_place, target_of, long_effect}
-use Rattle.tta_code.specs.declared.code.Long.{Long}
-use Rattle.tta_code.specs.declared.code.Instruction.{Instruction}
-use Rattle.tta_code.specs.Cycle.{effect_of, moves_of, long_effects, effects_of}
+use Rattle.tta_check.specs.Cited.{Template, Machine, KeptImm, target_of, long_effect, Long, Instruction, effect_of, moves_of, long_effects, effects_of}
+use Rattle.tta_arch.specs.Effects.{same_place}
 use Rattle.tta_check.specs.declared.spot.Spot.{Spot}
 use Rattle.tta_check.specs.Facts.{goes_into}
 use Rattle.tta_check.specs.Spots.{has_spot, Keeps, HasWritten, HasAll, Adds}

@@ -1,8 +1,7 @@
 -- From the first row to the verdict.
 use Rattle.std.proofs.Common.{◌≡◌, ℕ, ◌+◌, ◌*◌, List, [], ◌∷◌, length, map, Option, Some, None, refl, ap, sym, subst, ◌∙◌, arith, inl, inr}
 use Rattle.std.specs.Prelude.{replicate}
-use Rattle.tta_arch.specs.Machine.{Machine}
-use Rattle.tta_code.specs.declared.code.Code.{Code}
+use Rattle.tta_check.specs.Cited.{Machine, Code}
 use Rattle.tta_check.specs.declared.row.Row.{Row}
 use Rattle.tta_check.specs.declared.entries.EntryTable.{EntryTable}
 use Rattle.tta_check.specs.declared.spot.Spot.{Spot}

@@ -3,11 +3,8 @@ use Rattle.std.proofs.Common.{◌≡◌, ℕ, zero, suc, ◌+◌, ◌≤◌, ◌
 use Rattle.std.specs.Prelude.{◌&&◌, ◌-◌, ◌≢◌, if◌then◌else◌, slice_get}
 use Rattle.std.specs.Option.{option_map_or}
 use Rattle.std.proofs.lemmas.Bool.{eq-eqb, and_from}
-use Rattle.tta_arch.specs.Machine.{Machine}
-use Rattle.tta_arch.specs.Effects.{Kind, Jumps, Calls, Halts, Target, Reg, Imm, Operand, Trigger, Control, Effect}
-use Rattle.tta_code.specs.declared.code.Instruction.{Instruction}
-use Rattle.tta_code.specs.declared.code.Code.{Code}
-use Rattle.tta_code.specs.Cycle.{effects_of}
+use Rattle.tta_check.specs.Cited.{Machine, Kind, Jumps, Calls, Halts, Target, Trigger, Control, Effect, Instruction, Code, effects_of}
+use Rattle.tta_arch.specs.Effects.{Reg, Imm, Operand}
 use Rattle.tta_check.specs.declared.held.Held.{Held}
 use Rattle.tta_check.specs.declared.held.Held.TheVariants.{Nothing, One, Two}
 use Rattle.tta_check.specs.declared.row.Row.{Row}

@@ -4,7 +4,7 @@ use Rattle.std.specs.Prelude.{◌==◌, ◌||◌, ◌-◌, ◌≢◌, if◌then�
 use Rattle.std.specs.List.{list_any}
 use Rattle.std.proofs.lemmas.Bool.{and_parts, eq-eqb, eqb-true, or_left, and_from}
 use Rattle.std.proofs.lemmas.List.Folds.{list_any-append}
-use Rattle.tta_arch.specs.Effects.{Kind, Jumps, Calls, Halts}
+use Rattle.tta_check.specs.Cited.{Kind, Jumps, Calls, Halts}
 use Rattle.tta_check.specs.declared.row.Row.{Row}
 use Rattle.tta_check.specs.declared.entries.EntryTable.{EntryTable}
 use Rattle.tta_check.specs.declared.visit.Onward.{Onward}

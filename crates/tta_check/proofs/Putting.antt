@@ -1,11 +1,7 @@
 -- Tables into which something is put.
 use Rattle.std.proofs.Common.{◌≡◌, ℕ, zero, suc, ◌≤◌, length, List, [], ◌∷◌, map, Option, Some, None, refl, ap, sym, subst, ◌∙◌, ◌⊎◌, inl, inr, arith}
 use Rattle.std.specs.Prelude.{slice_get, slice_set}
-use Rattle.tta_arch.specs.Machine.{Machine}
-use Rattle.tta_arch.specs.Effects.{Kind}
-use Rattle.tta_code.specs.declared.code.Instruction.{Instruction}
-use Rattle.tta_code.specs.declared.code.Code.{Code}
-use Rattle.tta_code.specs.Cycle.{effects_of}
+use Rattle.tta_check.specs.Cited.{Machine, Kind, Instruction, Code, effects_of}
 use Rattle.tta_check.specs.declared.sense.Sense.{Sense}
 use Rattle.tta_check.specs.declared.turn.Turn.{Turn}
 use Rattle.tta_check.specs.Controls.{controller, does}

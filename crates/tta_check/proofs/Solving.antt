@@ -2,12 +2,7 @@
 use Rattle.std.proofs.Common.{◌≡◌, ℕ, zero, suc, ◌+◌, ◌*◌, ◌≤◌, ◌<◌, Bool, true, false, List, [], ◌∷◌, ◌++◌, length, Option, Some, None, refl, ap, sym, subst, ◌∙◌, ◌⊎◌, inl, inr, arith}
 use Rattle.std.specs.Prelude.{◌||◌, replicate, slice_get}
 use Rattle.std.proofs.lemmas.Bool.{leb-true}
-use Rattle.tta_arch.specs.Machine.{Machine}
-use Rattle.tta_arch.specs.Rules.{IsMachine}
-use Rattle.tta_code.specs.declared.code.Instruction.{Instruction}
-use Rattle.tta_code.specs.declared.code.Code.{Code}
-use Rattle.tta_code.specs.Cycle.{effects_of}
-use Rattle.tta_code.specs.Legal.{is_legal, IsLegalCode}
+use Rattle.tta_check.specs.Cited.{Machine, IsMachine, Instruction, Code, effects_of, is_legal, IsLegalCode}
 use Rattle.tta_check.specs.declared.row.Row.{Row}
 use Rattle.tta_check.specs.declared.entries.EntryTable.{EntryTable}
 use Rattle.tta_check.specs.declared.spot.Spot.{Spot}

@@ -4,8 +4,7 @@ use Rattle.std.specs.Prelude.{◌-◌, ◌≢◌, nat_lt, if◌then◌else◌, s
 use Rattle.std.specs.List.{AllByRecursion}
 use Rattle.std.proofs.lemmas.Bool.{ltb-true, ltb-false}
 use Rattle.std.proofs.lemmas.Option.{slice_get_within, slice_get_past}
-use Rattle.tta_arch.specs.Machine.{Machine}
-use Rattle.tta_code.specs.declared.code.Code.{Code}
+use Rattle.tta_check.specs.Cited.{Machine, Code, has_bit}
 use Rattle.tta_check.specs.declared.row.Kept.{Kept}
 use Rattle.tta_check.specs.declared.row.Row.{Row}
 use Rattle.tta_check.specs.declared.entries.EntryTable.{EntryTable}
@@ -15,7 +14,6 @@ use Rattle.tta_check.specs.declared.visit.Onward.{Onward}
 use Rattle.tta_check.specs.Verdict.{IsVerdict}
 use Rattle.tta_check.specs.Facts.{Here, Unset, Holds, Early, Late}
 use Rattle.tta_check.specs.Keys.{Key}
-use Rattle.tta_arch.specs.Joins.{has_bit}
 use Rattle.tta_check.specs.Rows.{covers, tells, cell_of, covers_word, port_of, is_early}
 use Rattle.tta_check.specs.Going.{key_as}
 use Rattle.tta_check.specs.Joined.{joined_list, AreAligned}

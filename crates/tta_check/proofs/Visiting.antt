@@ -3,13 +3,8 @@ use Rattle.std.proofs.Common.{◌≡◌, ℕ, zero, suc, ◌+◌, Bool, true, fa
 use Rattle.std.specs.Prelude.{◌||◌, is_some, if◌then◌else◌, slice_get}
 use Rattle.std.specs.Option.{option_map, option_map_or}
 use Rattle.std.specs.List.{list_any}
-use Rattle.tta_arch.specs.Machine.{Machine}
-use Rattle.tta_arch.specs.Rules.{IsMachine}
-use Rattle.tta_arch.specs.Effects.{Kind, Target, Reg, Imm, Operand, Trigger, Control, Effect, Place, same_place, or_else}
-use Rattle.tta_code.specs.declared.code.Instruction.{Instruction}
-use Rattle.tta_code.specs.declared.code.Code.{Code}
-use Rattle.tta_code.specs.Cycle.{effects_of}
-use Rattle.tta_code.specs.Legal.{is_legal}
+use Rattle.tta_check.specs.Cited.{Machine, IsMachine, Kind, Target, Trigger, Control, Effect, Place, or_else, Instruction, Code, effects_of, is_legal}
+use Rattle.tta_arch.specs.Effects.{Reg, Imm, Operand, same_place}
 use Rattle.tta_check.specs.declared.held.Held.{Held}
 use Rattle.tta_check.specs.declared.held.Held.TheVariants.{Nothing, One, Two}
 use Rattle.tta_check.specs.declared.key.Under.{Under as KeptUnder}

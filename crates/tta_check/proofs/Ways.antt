@@ -2,13 +2,7 @@
 use Rattle.std.proofs.Common.{◌≡◌, ◌+◌, Bool, true, false, List, Option, Some, None, refl, ap, sym, subst, ◌∙◌, ◌⊎◌, inl, inr}
 use Rattle.std.specs.Prelude.{◌&&◌}
 use Rattle.std.proofs.lemmas.Bool.{and_parts, and_from}
-use Rattle.tta_arch.specs.declared.ends.GuardRef.{GuardRef}
-use Rattle.tta_arch.specs.Machine.{Machine}
-use Rattle.tta_arch.specs.Joins.{is_same, is_same_guard}
-use Rattle.tta_arch.specs.Effects.{Effect}
-use Rattle.tta_code.specs.declared.code.Instruction.{Instruction}
-use Rattle.tta_code.specs.declared.code.Code.{Code}
-use Rattle.tta_code.specs.Cycle.{effects_of}
+use Rattle.tta_check.specs.Cited.{GuardRef, Machine, is_same, is_same_guard, Effect, Instruction, Code, effects_of}
 use Rattle.tta_check.specs.declared.row.Row.{Row}
 use Rattle.tta_check.specs.declared.sense.Sense.{Sense}
 use Rattle.tta_check.specs.declared.spot.Spot.{Spot}

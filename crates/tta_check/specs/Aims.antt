@@ -1,6 +1,6 @@
 -- Where a jump or call goes, as a row has it.
 use Rattle.std.specs.Prelude.{if◌then◌else◌, List, Option, Some, None}
-use Rattle.tta_arch.specs.Effects.{Effect}
+use Rattle.tta_check.specs.Cited.{Effect}
 use Rattle.tta_check.specs.declared.held.Held.{Held}
 use Rattle.tta_check.specs.declared.held.Held.TheVariants.{Nothing, One, Two}
 use Rattle.tta_check.specs.declared.row.Kept.{Kept}

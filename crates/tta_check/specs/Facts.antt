@@ -2,11 +2,10 @@
 use Rattle.std.specs.Prelude.{ℕ, ◌+◌, ◌==◌, Bool, true, false, not, ◌&&◌, nat_le, if◌then◌else◌, List, Option, Some, None, is_none}
 use Rattle.std.specs.Option.{option_map_or}
 use Rattle.std.specs.List.{list_any}
-use Rattle.tta_arch.specs.declared.ends.Source.{Source}
+use Rattle.tta_check.specs.Cited.{Source, Machine, Jumps, Calls, Halts, Target, Trigger, Control, Effect, Place, KeptReg, KeptImm, KeptOperand, KeptRa, width_of, has_result, op_at, first_some}
 use Rattle.tta_arch.specs.declared.ends.Source.TheVariants as source
-use Rattle.tta_arch.specs.Machine.{Machine}
-use Rattle.tta_arch.specs.Effects.{Jumps, Calls, Halts, Target, Reg, Imm, Operand, Trigger, Control, Effect}
-use Rattle.tta_arch.specs.Effects.{Place, KeptReg, KeptImm, KeptOperand, KeptRa, same_place, width_of, has_result, op_at, first_some}
+use Rattle.tta_arch.specs.Effects.{Reg, Imm, Operand}
+use Rattle.tta_arch.specs.Effects.{same_place}
 use Rattle.tta_check.specs.Walks.{Choice, Word, Walk, held_at, is_chosen}
 
 -- a fact of a walk: that it is here; that a place was never written; that a place keeps this word; that no result of a unit is due by so

@@ -1,8 +1,6 @@
 -- Where a walk stands: its address and the control move under way. Facts are kept together for each.
 use Rattle.std.specs.Prelude.{◌≡◌, ℕ, zero, suc, ◌+◌, if◌then◌else◌, List, Option, Some, None}
-use Rattle.tta_arch.specs.Machine.{Machine}
-use Rattle.tta_arch.specs.Effects.{Kind, Jumps, Calls, Halts, Effect, first_some}
-use Rattle.tta_code.specs.Cycle.{Pending}
+use Rattle.tta_check.specs.Cited.{Machine, Kind, Jumps, Calls, Halts, Effect, first_some, Pending}
 use Rattle.tta_check.specs.Walks.{Choice, Word, Walk, control_to}
 use Rattle.tta_check.specs.Facts.{lets}
 

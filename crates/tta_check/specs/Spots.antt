@@ -2,11 +2,8 @@
 use Rattle.std.specs.Prelude.{◌≡◌, ℕ, Bool, true, false, List, Option, Some, slice_get}
 use Rattle.std.specs.Option.{option_map_or}
 use Rattle.std.specs.List.{list_any}
-use Rattle.tta_arch.specs.Machine.{Machine}
-use Rattle.tta_arch.specs.Effects.{Effect, Place, same_place, target_of}
-use Rattle.tta_code.specs.declared.code.Move.{Move}
-use Rattle.tta_code.specs.declared.code.Instruction.{Instruction}
-use Rattle.tta_code.specs.Cycle.{effects_of}
+use Rattle.tta_check.specs.Cited.{Machine, Effect, Place, target_of, Move, Instruction, effects_of}
+use Rattle.tta_arch.specs.Effects.{same_place}
 use Rattle.tta_check.specs.declared.spot.Spot.{Spot}
 use Rattle.tta_check.specs.Facts.{goes_into}
 use Rattle.tta_check.specs.Rows.{place_of}

@@ -1,7 +1,6 @@
 -- What the answer about code has to be.
 use Rattle.std.specs.Prelude.{◌≡◌}
-use Rattle.tta_arch.specs.Machine.{Machine}
-use Rattle.tta_code.specs.declared.code.Code.{Code}
+use Rattle.tta_check.specs.Cited.{Machine, Code}
 use Rattle.tta_check.specs.declared.verdict.Verdict.{Verdict}
 use Rattle.tta_check.specs.declared.verdict.Verdict.TheVariants.{Safe}
 use Rattle.tta_check.specs.Verdict.{IsSafe, IsVerdict, NeverFaults}

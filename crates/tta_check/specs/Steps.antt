@@ -2,10 +2,7 @@
 use Rattle.std.specs.Prelude.{ℕ, ◌-◌, ◌/◌, ◌^◌, ◌==◌, Bool, true, false, not, ◌&&◌, nat_le, min, bit_or, if◌then◌else◌}
 use Rattle.std.specs.Prelude.{List, Option, Some, None}
 use Rattle.std.specs.Option.{option_map_or}
-use Rattle.tta_arch.specs.declared.ends.GuardRef.{GuardRef}
-use Rattle.tta_arch.specs.Machine.{Machine}
-use Rattle.tta_arch.specs.Joins.{is_same}
-use Rattle.tta_arch.specs.Effects.{Effect, Place, first_some}
+use Rattle.tta_check.specs.Cited.{GuardRef, Machine, is_same, Effect, Place, first_some}
 use Rattle.tta_check.specs.declared.held.Held.{Held}
 use Rattle.tta_check.specs.declared.held.Held.TheVariants.{Nothing, One}
 use Rattle.tta_check.specs.declared.row.Cell.{Cell}

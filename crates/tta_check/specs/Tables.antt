@@ -2,7 +2,7 @@
 use Rattle.std.specs.Prelude.{◌≡◌, ◌≢◌, ℕ, ◌+◌, ◌*◌, ◌-◌, ◌≤◌, ◌==◌, Bool, true, false, ◌&&◌, is_none, if◌then◌else◌}
 use Rattle.std.specs.Prelude.{List, [], ◌∷◌, ◌++◌, length, Option, Some, None, slice_get, slice_set, option_and_then}
 use Rattle.std.specs.Option.{option_map_or}
-use Rattle.tta_arch.specs.Effects.{Kind, Jumps, Calls, Halts}
+use Rattle.tta_check.specs.Cited.{Kind, Jumps, Calls, Halts}
 use Rattle.tta_check.specs.declared.row.Row.{Row}
 use Rattle.tta_check.specs.declared.entries.EntryTable.{EntryTable}
 use Rattle.tta_check.specs.declared.verdict.Verdict.{Verdict}

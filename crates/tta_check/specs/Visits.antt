@@ -1,11 +1,7 @@
 -- What comes of an instruction for the walks that stand at it.
 use Rattle.std.specs.Prelude.{◌≡◌, ℕ, ◌+◌, Bool, true, false, map, Option, Some, None, is_some}
 use Rattle.std.specs.Option.{option_map, option_map_or}
-use Rattle.tta_arch.specs.declared.ends.GuardRef.{GuardRef}
-use Rattle.tta_arch.specs.Machine.{Machine}
-use Rattle.tta_arch.specs.Effects.{Kind, Effect}
-use Rattle.tta_code.specs.declared.code.Instruction.{Instruction}
-use Rattle.tta_code.specs.Cycle.{effects_of}
+use Rattle.tta_check.specs.Cited.{GuardRef, Machine, Kind, Effect, Instruction, effects_of}
 use Rattle.tta_check.specs.declared.sense.Sense.{Sense}
 use Rattle.tta_check.specs.declared.turn.Turn.{Turn}
 use Rattle.tta_check.specs.declared.visit.Onward.{Onward}

@@ -4,16 +4,11 @@ use Rattle.std.specs.Prelude.{ℕ, ◌+◌, ◌==◌, Bool, true, false, ◌&&�
 use Rattle.std.specs.Prelude.{Option, Some, None, is_none, option_and_then}
 use Rattle.std.specs.Option.{option_map_or}
 use Rattle.std.specs.List.{list_any, filter_map}
-use Rattle.tta_arch.specs.declared.ends.Source.{Source}
+use Rattle.tta_check.specs.Cited.{Source, Machine, Kind, Jumps, Calls, Halts, Target, Trigger, Control, Effect, Place, KeptReg, KeptImm, KeptOperand, KeptRa, KeptPort, Brought, is_active, width_of, write_of, has_result, start_of, lacks_operand, first_some, Instruction, Code, State, Pending, Running, Halted, Waiting, Fault, Result', read_source, effects_of, reads_unset_register, reads_unset_port, clashes, jumps_in_delay, pending_after, lands}
 use Rattle.tta_arch.specs.declared.ends.Source.TheVariants as source
-use Rattle.tta_arch.specs.Machine.{Machine}
-use Rattle.tta_arch.specs.Effects.{Kind, Jumps, Calls, Halts, Target, Reg, Imm, Operand, Trigger, Control, Effect}
-use Rattle.tta_arch.specs.Effects.{Place, KeptReg, KeptImm, KeptOperand, KeptRa, KeptPort, same_place, Brought, Start}
-use Rattle.tta_arch.specs.Effects.{is_active, width_of, write_of, has_result, start_of, lacks_operand, first_some}
-use Rattle.tta_code.specs.declared.code.Instruction.{Instruction}
-use Rattle.tta_code.specs.declared.code.Code.{Code}
-use Rattle.tta_code.specs.Cycle.{State, Pending, Outcome, Running, Halted, Waiting, Fault, Result', read_source, effects_of}
-use Rattle.tta_code.specs.Cycle.{reads_unset_register, reads_unset_port, clashes, jumps_in_delay, pending_after, lands}
+use Rattle.tta_arch.specs.Effects.{Reg, Imm, Operand}
+use Rattle.tta_arch.specs.Effects.{same_place, Start}
+use Rattle.tta_code.specs.Cycle.{Outcome}
 
 -- ---- what a walk keeps
 

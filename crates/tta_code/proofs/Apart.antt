@@ -2,8 +2,8 @@
 use Rattle.std.proofs.Common.{◌≡◌, Bool, not, ◌&&◌, ◌||◌, List, [], ◌∷◌, map, Option, Some, None, refl, ap, ◌∙◌}
 use Rattle.std.specs.Prelude.{option_map}
 use Rattle.std.specs.List.{list_any, filter_map}
-use Rattle.tta_arch.specs.Legal.{are_apart, same_place, ends_of as ends_in}
-use Rattle.tta_arch.specs.Rules.{are_different}
+use Rattle.tta_code.specs.Cited.{are_apart, same_place, are_different}
+use Rattle.tta_arch.specs.Legal.{ends_of as ends_in}
 use Rattle.tta_code.specs.declared.code.Move.{Move}
 use Rattle.tta_code.specs.Legal.{ends_of}
 

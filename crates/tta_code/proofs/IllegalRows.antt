@@ -1,8 +1,7 @@
 -- Instructions for the machine of three buses, and the first rule that each breaks.
 use Rattle.std.specs.Prelude.{◌≡◌, ℕ, [], ◌∷◌, true, Some, None, Option, refl}
-use Rattle.tta_arch.specs.declared.ends.Source.{Source}
+use Rattle.tta_code.specs.Cited.{Source, Dest}
 use Rattle.tta_arch.specs.declared.ends.Source.TheVariants as source
-use Rattle.tta_arch.specs.declared.ends.Dest.{Dest}
 use Rattle.tta_arch.specs.declared.ends.Dest.TheVariants as dest
 use Rattle.tta_arch.proofs.Samples.{three_buses}
 use Rattle.tta_code.specs.declared.code.Move.{Move}

@@ -5,9 +5,8 @@ use Rattle.std.specs.Option.{option_map}
 use Rattle.std.specs.List.{list_any}
 use Rattle.std.proofs.lemmas.Bool.{and_parts, and_from}
 use Rattle.std.proofs.lemmas.List.{append_assoc, length-map}
-use Rattle.tta_arch.specs.Machine.{Machine}
-use Rattle.tta_arch.specs.Joins.{has_bit, has_guard, is_source_on, is_dest_on, joins}
-use Rattle.tta_arch.specs.Legal.{Ends, Slots, ends_of, keeps_taken, is_joined, has_reads, has_writes, are_apart, reads_file, reads_imm, writes_file, same_place}
+use Rattle.tta_code.specs.Cited.{Machine, has_bit, has_guard, is_source_on, is_dest_on, joins, Ends, Slots, keeps_taken, is_joined, has_reads, has_writes, are_apart, reads_file, reads_imm, writes_file, same_place}
+use Rattle.tta_arch.specs.Legal.{ends_of}
 use Rattle.tta_code.specs.declared.code.Move.{Move}
 use Rattle.tta_code.specs.Legal.{ends_of as move_ends, taken}
 use Rattle.tta_code.specs.Illegal.{told, broken, broken_by, has_read_left, has_write_left, is_place_free}

@@ -2,8 +2,7 @@
 use Rattle.std.proofs.Common.{◌≡◌, ◌==◌, true, ◌&&◌, length}
 use Rattle.std.specs.Option.{option_map_or}
 use Rattle.std.proofs.lemmas.Bool.{and_parts}
-use Rattle.tta_arch.specs.Machine.{Machine}
-use Rattle.tta_arch.specs.Legal.{keeps_taken, is_joined, has_reads, has_writes, are_apart, can_move}
+use Rattle.tta_code.specs.Cited.{Machine, keeps_taken, is_joined, has_reads, has_writes, are_apart, can_move}
 use Rattle.tta_arch.specs.Legal.{ends_of as all_ends}
 use Rattle.tta_code.specs.declared.code.Instruction.{Instruction}
 use Rattle.tta_code.specs.Legal.{slots_of, taken, is_long, is_instruction, is_legal}

@@ -5,13 +5,10 @@ use Rattle.std.specs.Option.{option_map, option_map_or}
 use Rattle.std.specs.List.{list_any}
 use Rattle.std.proofs.lemmas.Bool.{and_from, ne_eqb}
 use Rattle.std.proofs.lemmas.List.Sums.{sum_by-cons}
-use Rattle.tta_arch.specs.declared.ends.Source.{Source}
+use Rattle.tta_code.specs.Cited.{Source, Dest, Machine, is_source_on, is_dest_on, Ends, Slots, all_below, reads_file, reads_imm, writes_file}
 use Rattle.tta_arch.specs.declared.ends.Source.TheVariants as source
-use Rattle.tta_arch.specs.declared.ends.Dest.{Dest}
 use Rattle.tta_arch.specs.declared.ends.Dest.TheVariants as dest
-use Rattle.tta_arch.specs.Machine.{Machine}
-use Rattle.tta_arch.specs.Joins.{is_source_on, is_dest_on}
-use Rattle.tta_arch.specs.Legal.{Ends, Slots, ends_of, all_below, reads_file, reads_imm, writes_file}
+use Rattle.tta_arch.specs.Legal.{ends_of}
 use Rattle.tta_code.specs.declared.code.Move.{Move}
 use Rattle.tta_code.specs.Legal.{ends_of as move_ends}
 use Rattle.tta_code.specs.Illegal.{moves_where, has_read_left, has_write_left}

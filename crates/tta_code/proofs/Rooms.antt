@@ -2,8 +2,7 @@
 use Rattle.std.proofs.Common.{◌≤◌, length, arith}
 use Rattle.std.specs.Prelude.{◌^◌}
 use Rattle.std.proofs.Math.Nat.{pow-le-pow_right}
-use Rattle.tta_arch.specs.Machine.{Machine}
-use Rattle.tta_arch.specs.Rules.{IsMachine}
+use Rattle.tta_code.specs.Cited.{Machine, IsMachine}
 use Rattle.tta_code.specs.declared.code.Code.{Code}
 use Rattle.tta_code.specs.Legal.{IsLegalCode}
 use Rattle.tta_arch.proofs.Facts.{address_most as address_few}

@@ -7,9 +7,8 @@ use Rattle.std.proofs.lemmas.Bool.{and_parts, and_from, leb-true, le-leb, lt-leb
 use Rattle.std.proofs.lemmas.List.Elements.{filter_map-append}
 use Rattle.std.proofs.lemmas.List.Folds.{list_any-append}
 use Rattle.std.proofs.lemmas.List.Sums.{sum_by-append, sum_by-cons}
-use Rattle.tta_arch.specs.Machine.{Machine}
-use Rattle.tta_arch.specs.Joins.{has_bit, joins}
-use Rattle.tta_arch.specs.Legal.{Ends, Slots, ends_of, all_slots, all_below, keeps_taken, is_joined, are_apart, same_place}
+use Rattle.tta_code.specs.Cited.{Machine, has_bit, joins, Ends, Slots, all_slots, all_below, keeps_taken, is_joined, are_apart, same_place}
+use Rattle.tta_arch.specs.Legal.{ends_of}
 
 -- ---- Booleans
 

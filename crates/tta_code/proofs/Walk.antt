@@ -5,10 +5,8 @@ use Rattle.std.specs.Option.{option_map, option_or}
 use Rattle.std.proofs.lemmas.Bool.{and_parts, and_from, le-leb, eqb-true, false_from_ne_true}
 use Rattle.std.proofs.lemmas.List.{append_assoc, length-take-le, map-append, take_more, drop_more, drop_all}
 use Rattle.tta_list.proofs.Tests.{option_or-none}
-use Rattle.tta_arch.specs.declared.parts.Template.{Template}
-use Rattle.tta_arch.specs.Machine.{Machine}
-use Rattle.tta_arch.specs.Rules.{IsMachine}
-use Rattle.tta_arch.specs.Legal.{Slots, ends_of, keeps_taken, is_joined, has_reads, has_writes, are_apart, can_move}
+use Rattle.tta_code.specs.Cited.{Template, Machine, IsMachine, Slots, keeps_taken, is_joined, has_reads, has_writes, are_apart, can_move}
+use Rattle.tta_arch.specs.Legal.{ends_of}
 use Rattle.tta_code.specs.declared.legality.Illegal.{Illegal}
 use Rattle.tta_code.specs.declared.code.Move.{Move}
 use Rattle.tta_code.specs.declared.code.Instruction.{Instruction}

@@ -2,12 +2,8 @@
 use Rattle.std.specs.Prelude.{ℕ, ◌+◌, ◌==◌, Bool, true, ◌&&◌, ◌||◌, nat_lt, nat_le, if◌then◌else◌, List, [], ◌∷◌, ◌++◌, map, replicate, fold, Option, Some, None, is_some, is_none, slice_get, slice_index}
 use Rattle.std.specs.Option.{option_map_or}
 use Rattle.std.specs.List.{list_any, filter_map}
-use Rattle.tta_list.specs.Iterate.{iterate}
-use Rattle.tta_ops.specs.Units.{Units}
-use Rattle.tta_arch.specs.declared.ends.Source.{Source}
+use Rattle.tta_code.specs.Cited.{iterate, Units, Source, Machine, Kind, Jumps, Calls, Halts, Effect, target_of, long_effect, KeptReg, KeptImm, KeptRa, Written, kept, Brought, bring, write_of, has_result, Start, start_of, result_word, store_data, store_frame, put_out, takes, take_in, control_of, is_register, is_port, has_unset_guard, has_unset, lacks_operand, first_some}
 use Rattle.tta_arch.specs.declared.ends.Source.TheVariants as source
-use Rattle.tta_arch.specs.Machine.{Machine}
-use Rattle.tta_arch.specs.Effects.{Kind, Jumps, Calls, Halts, Effect, target_of, long_effect, KeptReg, KeptImm, KeptRa, Written, kept, Brought, bring, write_of, has_result, Start, start_of, result_word, store_data, store_frame, put_out, takes, take_in, control_of, is_register, is_port, has_unset_guard, has_unset, lacks_operand, first_some}
 use Rattle.tta_code.specs.declared.code.Move.{Move}
 use Rattle.tta_code.specs.declared.code.Long.{Long}
 use Rattle.tta_code.specs.declared.code.Instruction.{Instruction}

@@ -2,14 +2,10 @@
 use Rattle.std.specs.Prelude.{◌≡◌, ℕ, ◌↔◌, Bool, true, false, not, List, [], ◌∷◌, ◌++◌, length, Option, Some, None, slice_get, nat_lt, count_by}
 use Rattle.std.specs.Option.{option_or, option_map_or}
 use Rattle.std.specs.List.{list_any}
-use Rattle.tta_arch.specs.declared.ends.Source.{Source}
+use Rattle.tta_code.specs.Cited.{Source, Dest, Template, Machine, has_bit, joins, Slots, keeps_taken, is_joined, has_reads, has_writes, are_apart, reads_file, reads_imm, writes_file, same_place}
 use Rattle.tta_arch.specs.declared.ends.Source.TheVariants as source
-use Rattle.tta_arch.specs.declared.ends.Dest.{Dest}
 use Rattle.tta_arch.specs.declared.ends.Dest.TheVariants as dest
-use Rattle.tta_arch.specs.declared.parts.Template.{Template}
-use Rattle.tta_arch.specs.Machine.{Machine}
-use Rattle.tta_arch.specs.Joins.{has_bit, joins}
-use Rattle.tta_arch.specs.Legal.{Slots, ends_of, keeps_taken, is_joined, has_reads, has_writes, are_apart, reads_file, reads_imm, writes_file, same_place}
+use Rattle.tta_arch.specs.Legal.{ends_of}
 use Rattle.tta_code.specs.declared.code.Move.{Move}
 use Rattle.tta_code.specs.declared.code.Long.{Long}
 use Rattle.tta_code.specs.declared.code.Instruction.{Instruction}

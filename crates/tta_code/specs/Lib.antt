@@ -1,3 +1,4 @@
+pub mod Cited
 pub mod Legal
 pub mod Illegal
 pub mod Cycle

@@ -1,7 +1,7 @@
 -- Code with the data that it begins with.
 use Rattle.std.specs.Prelude.{ℕ, ◌+◌, Bool, true, ◌&&◌, nat_le, nat_lt, ◌^◌, List, [], ◌∷◌, map}
 use Rattle.std.specs.List.{list_all}
-use Rattle.tta_list.specs.Laid.{Laid}
+use Rattle.tta_code.specs.Cited.{Laid}
 use Rattle.tta_code.specs.declared.code.Code.{Code}
 use Rattle.tta_code.specs.declared.whole.Datum.{Datum}
 

@@ -6,19 +6,10 @@ use Rattle.std.specs.List.{list_any, sum_by}
 use Rattle.std.proofs.lemmas.Bool.{and_parts}
 use Rattle.std.proofs.lemmas.List.Sums.{sum_by-cons}
 use Rattle.std.proofs.lemmas.Bool.Decides.{nat_tests}
-use Rattle.tta_arch.specs.declared.parts.Op.{Op}
-use Rattle.tta_arch.specs.declared.parts.Op.TheVariants.{Ldw, Stw, Ldf, Stf, Out, Take as TakeIn, Set}
-use Rattle.tta_arch.specs.declared.parts.UnitOp.{UnitOp}
-use Rattle.tta_arch.specs.Machine.{Machine}
-use Rattle.tta_arch.specs.Effects.{Target, Reg, Imm, Operand, Trigger, Control, op_at}
-use Rattle.tta_arch.specs.Rules.{same_op, is_frame_op}
-use Rattle.tta_moves.specs.declared.items.Item.{Item}
-use Rattle.tta_moves.specs.Touches.{target_of_item}
-use Rattle.tta_connect.specs.declared.choice.Choice.{Choice}
-use Rattle.tta_connect.specs.Coverage.{IsChoice, registers_from, homes_from}
+use Rattle.tta_compose.specs.Cited.{Op, Ldw, Stw, Ldf, Stf, Out, Set, UnitOp, Machine, Target, Imm, Operand, Trigger, Control, op_at, same_op, is_frame_op, Item, target_of_item, Choice, IsChoice, registers_from, homes_from, Aim, ToReg, ToImm, ToOperand, ToStart, ToControl, aim_of, is_scratch, targets, is_trigger_of, is_start_of, is_frame_trigger, is_home}
+use Rattle.tta_arch.specs.declared.parts.Op.TheVariants.{Take as TakeIn}
+use Rattle.tta_arch.specs.Effects.{Reg}
 use Rattle.tta_moves.proofs.Places.{either}
-use Rattle.tta_optim.specs.Kept.{Aim, ToReg, ToImm, ToOperand, ToStart, ToControl, aim_of, is_scratch}
-use Rattle.tta_select.specs.Counts.{targets, is_trigger_of, is_start_of, is_frame_trigger, is_home}
 use Rattle.tta_select.proofs.HomeLists.{Each, each_append, each_weaker, registers_each, Other, files_from}
 use Rattle.tta_select.proofs.Covering.{hub_there}
 

@@ -4,39 +4,16 @@ use Rattle.std.specs.Prelude.{nat_lt}
 use Rattle.std.specs.List.{list_all, AllByRecursion}
 use Rattle.std.proofs.lemmas.Bool.{and_parts}
 use Rattle.std.proofs.lemmas.Bool.Decides.{nat_tests}
-use Rattle.tta_ops.specs.Units.{Units}
-use Rattle.tta_arch.specs.Machine.{Machine}
-use Rattle.tta_connect.specs.declared.choice.Choice.{Choice}
-use Rattle.tta_program.specs.declared.program.DataLine.{DataLine}
-use Rattle.tta_program.specs.Program.{Program, datum_of}
-use Rattle.tta_program.specs.Rules.{is_datum}
+use Rattle.tta_compose.specs.Cited.{Units, Machine, Choice, DataLine, Program, datum_of, is_datum, Outcome, BlockList, AllPairs, AreAddresses, lrun, StandsFor, Part, RBlock, Rir, Known, parts, block_of, lowered, is_closed_block, is_running, rrun, IsRegisterCode, fits_block, word_block, as_legs, IsFit, IsGiven, MeanAt, IsKnown}
 use Rattle.tta_program.specs.Sequential as program
-use Rattle.tta_program.specs.Sequential.{Outcome}
-use Rattle.tta_moves.specs.declared.items.BlockList.{BlockList}
 use Rattle.tta_list.specs.Legs as legs
-use Rattle.tta_list.specs.Legs.{AllPairs}
-use Rattle.tta_moves.specs.Runs.{AreAddresses, lrun}
-use Rattle.tta_optim.specs.Kept.{StandsFor}
 use Rattle.tta_optim.proofs.RunsKept.{keeps_runs}
 use Rattle.tta_optim.proofs.NoMore.{optimise_bypassed, optimise_shared, optimise_lively}
 use Rattle.tta_optim.proofs.StandIns.{stands_itself, stand_in_next, optimised_stands}
-use Rattle.tta_lower.specs.declared.part.Part.{Part}
-use Rattle.tta_rcode.specs.declared.code.RBlock.{RBlock}
-use Rattle.tta_rcode.specs.declared.code.Rir.{Rir}
-use Rattle.tta_lower.specs.Liveness.{Known}
-use Rattle.tta_lower.specs.Lower.{parts, block_of, lowered}
-use Rattle.tta_rcode.specs.Closed.{is_closed_block}
-use Rattle.tta_rcode.specs.Meaning.{is_running, rrun}
-use Rattle.tta_lower.specs.Law.{IsRegisterCode}
 use Rattle.tta_lower.specs.Keeps as lower
 use Rattle.tta_lower.proofs.Lowering.{lowers_well}
-use Rattle.tta_select.specs.Needs.{fits_block, word_block}
 use Rattle.tta_select.specs.Keeps as select
-use Rattle.tta_select.specs.Keeps.{as_legs, IsFit}
-use Rattle.tta_select.specs.Statement.{IsGiven}
 use Rattle.tta_select.proofs.Selecting.{selects}
-use Rattle.tta_overlap.specs.Means.{MeanAt}
-use Rattle.tta_lower.specs.Law.{IsKnown}
 use Rattle.tta_compose.specs.Compiler.{IsPair, AreStandIns, optimised, raw}
 use Rattle.tta_compose.specs.Laws.{ListsMean, SelectedStand, OptimisedStand}
 use Rattle.tta_compose.proofs.Offered.{part_steps, part_exit}

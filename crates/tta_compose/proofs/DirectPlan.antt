@@ -4,39 +4,9 @@ use Rattle.std.specs.Prelude.{◌==◌, option_map}
 use Rattle.std.proofs.lemmas.Bool.Decides.{nat_tests}
 use Rattle.std.proofs.lemmas.List.{length-map}
 use Rattle.std.proofs.lemmas.Option.{slice_get-map}
-use Rattle.tta_ops.specs.Units.{Units}
-use Rattle.tta_arch.specs.declared.parts.Op.{Op}
-use Rattle.tta_arch.specs.Machine.{Machine}
-use Rattle.tta_arch.specs.Rules.{IsMachine}
-use Rattle.tta_connect.specs.declared.choice.Choice.{Choice}
-use Rattle.tta_connect.specs.declared.calls.Call.{Call}
-use Rattle.tta_program.specs.declared.program.Proc.{Proc}
-use Rattle.tta_program.specs.Program.{Program}
-use Rattle.tta_program.specs.Rules.{IsProgram}
-use Rattle.tta_program.specs.Direct.{puts}
-use Rattle.tta_rcode.specs.declared.code.RBlock.{RBlock}
-use Rattle.tta_rcode.specs.declared.code.Rir.{Rir}
-use Rattle.tta_rcode.specs.Counts.{asks}
-use Rattle.tta_rcode.specs.Direct.{one_block}
-use Rattle.tta_flow.specs.declared.flow.Block.{Block}
-use Rattle.tta_flow.specs.declared.live.Live.{Live}
-use Rattle.tta_flow.specs.Blocks.{IsFlow}
-use Rattle.tta_flow.specs.Live.{IsLive}
-use Rattle.tta_alloc.specs.declared.homes.Homes.{Homes}
-use Rattle.tta_alloc.specs.Allotted.{AreAllotted}
-use Rattle.tta_lower.specs.declared.part.Part.{Part}
-use Rattle.tta_lower.specs.Counts.{asks_part}
-use Rattle.tta_lower.specs.Law.{IsRegisterCode}
-use Rattle.tta_lower.specs.Lower.{parts, block_of}
-use Rattle.tta_lower.specs.Known.{first_by, known_by}
+use Rattle.tta_compose.specs.Cited.{Units, Op, Machine, IsMachine, Choice, Call, Proc, Program, IsProgram, puts, RBlock, Rir, asks, one_block, Block, Live, IsFlow, IsLive, Homes, AreAllotted, Part, asks_part, IsRegisterCode, parts, block_of, first_by, known_by, Item, BlockList, none_after, is_bypassable, is_redundant, is_lively, targets, is_start_of, is_need, home_pair, out_of, constants_out}
 use Rattle.tta_lower.proofs.Lowering.{lowers_well}
 use Rattle.tta_lower.proofs.SameHomes.{answers_know}
-use Rattle.tta_moves.specs.declared.items.Item.{Item}
-use Rattle.tta_moves.specs.declared.items.BlockList.{BlockList}
-use Rattle.tta_moves.specs.Forms.{none_after, is_bypassable, is_redundant, is_lively}
-use Rattle.tta_select.specs.Counts.{targets, is_start_of, is_need}
-use Rattle.tta_select.specs.Select.{home_pair}
-use Rattle.tta_select.specs.Direct.{out_of, constants_out}
 use Rattle.tta_select.proofs.OutputJoins.{CanOutput, can}
 use Rattle.tta_select.proofs.DirectLists.{no_address, straight, triggers, frames, homes}
 use Rattle.tta_compose.specs.Direct.{constants_of, list_of_direct, is_direct}

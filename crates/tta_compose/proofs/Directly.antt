@@ -1,34 +1,14 @@
 -- A direct pair: its list, and what the code of its list does.
 use Rattle.std.proofs.Common.{◌≡◌, ℕ, zero, suc, true, List, [], ◌∷◌, Some, refl, sym, subst, arith, length, slice_get}
-use Rattle.tta_arch.specs.Machine.{Machine}
-use Rattle.tta_program.specs.declared.program.Proc.{Proc}
-use Rattle.tta_program.specs.declared.program.DataLine.{DataLine}
-use Rattle.tta_program.specs.Program.{Program}
-use Rattle.tta_program.specs.Rules.{IsProgram}
-use Rattle.tta_program.specs.Direct.{only_constants, puts, alone}
-use Rattle.tta_rcode.specs.Direct.{one_block}
-use Rattle.tta_flow.specs.declared.flow.Block.{Block}
-use Rattle.tta_flow.specs.declared.live.Live.{Live}
-use Rattle.tta_flow.specs.Blocks.{IsFlow}
-use Rattle.tta_flow.specs.Live.{IsLive}
-use Rattle.tta_alloc.specs.declared.homes.Homes.{Homes}
-use Rattle.tta_alloc.specs.Allotted.{AreAllotted}
+use Rattle.tta_compose.specs.Cited.{Machine, Proc, DataLine, Program, IsProgram, only_constants, puts, alone, one_block, Block, Live, IsFlow, IsLive, Homes, AreAllotted, lowered, IsKnown, known_by, BlockList, Placed, control_is_last, is_list, out_of, constants_out, IsBlock}
 use Rattle.tta_lower.specs.Keeps as lower
-use Rattle.tta_lower.specs.Lower.{lowered}
-use Rattle.tta_lower.specs.Law.{IsKnown}
-use Rattle.tta_lower.specs.Known.{known_by}
 use Rattle.tta_lower.proofs.Lowering.{lowers_well}
 use Rattle.tta_lower.proofs.OneBlock.{one-block}
 use Rattle.tta_lower.proofs.SameBlocks.{are_blocks}
 use Rattle.tta_lower.proofs.SameHomes.{answers_know}
-use Rattle.tta_moves.specs.declared.items.BlockList.{BlockList}
-use Rattle.tta_moves.specs.declared.items.Placed.{Placed}
-use Rattle.tta_moves.specs.Slots.{control_is_last, is_list}
-use Rattle.tta_select.specs.Direct.{out_of, constants_out}
 use Rattle.tta_select.proofs.OutputJoins.{CanOutput, can}
 use Rattle.tta_select.proofs.OneList.{alike}
 use Rattle.tta_select.proofs.DirectLists.{control_last, no_address, can_direct}
-use Rattle.tta_link.specs.Blocks.{IsBlock}
 use Rattle.tta_overlap.proofs.Built.{built_agrees}
 use Rattle.tta_compose.specs.Direct.{constants_of, list_of_direct, DirectLowers, DirectIsList, DirectMeans, DirectLinks, DirectAgrees}
 use Rattle.tta_compose.proofs.Composed.{mean_of, data_words}

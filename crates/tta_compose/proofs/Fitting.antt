@@ -3,21 +3,11 @@ use Rattle.std.proofs.Common.{◌≡◌, ℕ, true, List, [], ◌∷◌, refl, s
 use Rattle.std.specs.Prelude.{◌&&◌, ◌^◌, nat_lt, nat_le}
 use Rattle.std.specs.List.{list_all}
 use Rattle.std.proofs.lemmas.Bool.{and_parts}
-use Rattle.tta_ops.specs.Units.{Units}
-use Rattle.tta_arch.specs.Machine.{Machine}
-use Rattle.tta_connect.specs.declared.choice.Choice.{Choice}
-use Rattle.tta_rcode.specs.declared.code.Place.{Place}
-use Rattle.tta_rcode.specs.declared.code.Place.TheVariants.{Reg, Frame}
-use Rattle.tta_rcode.specs.declared.code.RSrc.{RSrc}
-use Rattle.tta_rcode.specs.declared.code.RSrc.TheVariants.{At, Word}
-use Rattle.tta_rcode.specs.declared.code.RStep.{RStep}
-use Rattle.tta_rcode.specs.declared.code.RStep.TheVariants.{Copy, Apply, Load, Take, Store, Put, When, SaveRa}
-use Rattle.tta_rcode.specs.declared.code.Exit.{Exit}
-use Rattle.tta_rcode.specs.declared.code.Exit.TheVariants.{Next, Goto, If, Invoke, Back, Halt}
-use Rattle.tta_rcode.specs.declared.code.RBlock.{RBlock}
-use Rattle.tta_rcode.specs.Closed.{block_passes, src_passes, step_passes, exit_passes, is_place, leads_within, is_closed_block}
-use Rattle.tta_select.specs.Relation.{is_place_of, is_src_of}
-use Rattle.tta_select.specs.Needs.{op_of_step, op_of_exit, is_step_of, is_exit_of, is_offered, fits_step, fits_block}
+use Rattle.tta_compose.specs.Cited.{Units, Machine, Choice, Place, Frame, RSrc, At, RStep, SaveRa, Exit, Next, Back, RBlock, block_passes, src_passes, step_passes, exit_passes, is_place, leads_within, is_closed_block, is_place_of, is_src_of, op_of_step, op_of_exit, is_step_of, is_exit_of, is_offered, fits_step, fits_block}
+use Rattle.tta_rcode.specs.declared.code.Place.TheVariants.{Reg}
+use Rattle.tta_rcode.specs.declared.code.RSrc.TheVariants.{Word}
+use Rattle.tta_rcode.specs.declared.code.RStep.TheVariants.{Copy, Apply, Load, Take, Store, Put, When}
+use Rattle.tta_rcode.specs.declared.code.Exit.TheVariants.{Goto, If, Invoke, Halt}
 
 module _ (m : Machine) (c : Choice) where
   same_place : (p : Place) → is_place (length c.homes) m.frame_words p ≡ is_place_of m c p

@@ -6,30 +6,11 @@ use Rattle.std.proofs.lemmas.Bool.{and_parts}
 use Rattle.std.proofs.lemmas.Bool.Decides.{nat_tests}
 use Rattle.std.proofs.lemmas.List.{length-map}
 use Rattle.std.proofs.lemmas.Option.{slice_get_within, slice_get-get_or}
-use Rattle.tta_ops.specs.Units.{Units}
-use Rattle.tta_arch.specs.Machine.{Machine}
-use Rattle.tta_connect.specs.declared.choice.Choice.{Choice}
-use Rattle.tta_program.specs.Program.{Program}
-use Rattle.tta_moves.specs.declared.items.BlockList.{BlockList}
-use Rattle.tta_moves.specs.declared.items.Item.{Item}
-use Rattle.tta_moves.specs.declared.items.Item.TheVariants.{Move, Long}
-use Rattle.tta_moves.specs.declared.items.ItemSource.TheVariants.{Port, Address}
+use Rattle.tta_compose.specs.Cited.{Units, Machine, Choice, Program, BlockList, Item, Move, Long, Port, Address, PlacedItem, Placed, source_of, is_list, has_slot, control_is_last, Respects, Part, Known, parts, block_of, is_closed, ArePlaced, is_within, IsBlock, AreBlocks, IsKnown}
 use Rattle.tta_moves.specs.declared.items.LongValue.TheVariants as long
-use Rattle.tta_moves.specs.declared.items.PlacedItem.{PlacedItem}
-use Rattle.tta_moves.specs.declared.items.Placed.{Placed}
-use Rattle.tta_moves.specs.Touches.{source_of}
-use Rattle.tta_moves.specs.Slots.{is_list, has_slot, control_is_last}
-use Rattle.tta_moves.specs.Bounds.{Respects}
-use Rattle.tta_lower.specs.declared.part.Part.{Part}
-use Rattle.tta_lower.specs.Liveness.{Known}
-use Rattle.tta_lower.specs.Lower.{parts, block_of}
-use Rattle.tta_select.specs.Lists.{is_closed}
-use Rattle.tta_overlap.specs.Overlap.{ArePlaced}
 use Rattle.tta_overlap.proofs.Items.{idle_item, timed, nth_timed, length_timed}
 use Rattle.tta_overlap.proofs.Total.{Timed}
 use Rattle.tta_overlap.proofs.Bounds.{Keeps, bounds_keep}
-use Rattle.tta_link.specs.Blocks.{is_within, IsBlock, AreBlocks}
-use Rattle.tta_lower.specs.Law.{IsKnown}
 use Rattle.tta_compose.specs.Compiler.{IsPair, AreStandIns, raw}
 use Rattle.tta_compose.specs.Planned.{IsListOf, ArePlanned}
 use Rattle.tta_compose.specs.Linking.{AreRespected, ListsLink, ListsAgree}

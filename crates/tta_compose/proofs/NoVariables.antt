@@ -1,21 +1,9 @@
 -- A program of constants has no interval of any variable, so its homes are the same for any number of home registers.
 use Rattle.std.proofs.Common.{◌≡◌, ◌<◌, ◌⊎◌, inl, inr, ℕ, zero, suc, Bool, true, false, List, [], ◌∷◌, Some, refl, sym, ap, ◌∙◌, arith, slice_get}
-use Rattle.tta_program.specs.declared.operand.Src.TheVariants.{Var, Word}
-use Rattle.tta_program.specs.declared.step.Step.{Step}
-use Rattle.tta_program.specs.declared.step.Step.TheVariants.{Put, Halt, End}
-use Rattle.tta_program.specs.declared.program.Proc.{Proc}
-use Rattle.tta_program.specs.declared.program.DataLine.{DataLine}
-use Rattle.tta_program.specs.Direct.{only_constants, alone}
-use Rattle.tta_flow.specs.Steps.{reads_at, assigns_at}
-use Rattle.tta_flow.specs.Paths.{LiveBefore, ReadHere, ReadLater}
-use Rattle.tta_alloc.specs.declared.interval.Interval.{Interval}
-use Rattle.tta_alloc.specs.declared.home.Home.{Home}
-use Rattle.tta_alloc.specs.declared.home.Home.TheVariants.{Reg, Slot}
-use Rattle.tta_alloc.specs.declared.homes.Homes.{Homes}
-use Rattle.tta_alloc.specs.Intervals.{Counts, IsParam, IsLiveAtEntry, IsRead, IsAssigned, IsLiveBefore, IsLiveAfter, AreTaken}
-use Rattle.tta_alloc.specs.Scan.{scan}
-use Rattle.tta_alloc.specs.Homes.{count_of, home_of}
-use Rattle.tta_alloc.specs.Allotted.{AreAllotted, AreAllottedOf}
+use Rattle.tta_compose.specs.Cited.{Var, Step, End, Proc, DataLine, only_constants, alone, reads_at, assigns_at, LiveBefore, ReadHere, ReadLater, Interval, Home, Slot, Homes, Counts, IsParam, IsLiveAtEntry, IsRead, IsAssigned, IsLiveBefore, IsLiveAfter, AreTaken, scan, count_of, home_of, AreAllotted, AreAllottedOf}
+use Rattle.tta_program.specs.declared.operand.Src.TheVariants.{Word}
+use Rattle.tta_program.specs.declared.step.Step.TheVariants.{Put, Halt}
+use Rattle.tta_alloc.specs.declared.home.Home.TheVariants.{Reg}
 
 none_read : (steps : List Step) → only_constants steps ≡ true → (i x : ℕ) → reads_at steps i x ≡ false
 none_read (Put (Word w) ∷ steps) only zero x = refl

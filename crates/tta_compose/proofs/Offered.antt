@@ -4,25 +4,10 @@ use Rattle.std.specs.Prelude.{if◌then◌else◌, ◌==◌}
 use Rattle.std.specs.Option.{option_map_or}
 use Rattle.std.specs.List.{list_all}
 use Rattle.tta_list.proofs.Lists.{list_all_one, and_both as both}
-use Rattle.tta_ops.specs.Units.{Units}
-use Rattle.tta_arch.specs.Machine.{Machine}
-use Rattle.tta_connect.specs.declared.choice.Choice.{Choice}
-use Rattle.tta_program.specs.declared.operand.Src.{Src}
-use Rattle.tta_program.specs.declared.step.Step.{Step}
-use Rattle.tta_program.specs.declared.step.Step.TheVariants.{Copy, Apply, Load, Take, Store, Put, If, Goto, When, Invoke, Return, Halt, End}
-use Rattle.tta_program.specs.declared.program.Proc.{Proc}
-use Rattle.tta_program.specs.Program.{Program}
-use Rattle.tta_program.specs.Sequential.{step_at}
-use Rattle.tta_rcode.specs.declared.code.RSrc.{RSrc}
-use Rattle.tta_rcode.specs.declared.code.RStep.{RStep}
-use Rattle.tta_lower.specs.Liveness.{Known}
-use Rattle.tta_lower.specs.declared.part.Part.{Part}
-use Rattle.tta_lower.specs.declared.part.Part.TheVariants.{Entry, Steps, Returned}
-use Rattle.tta_lower.specs.Lower.{block_of, number_of, entry_number}
+use Rattle.tta_compose.specs.Cited.{Units, Machine, Choice, Src, Step, Return, End, Proc, Program, step_at, RSrc, RStep, Known, Part, Entry, Steps, Returned, block_of, number_of, entry_number, vars_of, place, steps_for, passes, gives, code_from, exit_for, keeps_ra, sets, sets_from, back, op_of_step, op_of_exit, is_offered}
+use Rattle.tta_program.specs.declared.step.Step.TheVariants.{Copy, Apply, Load, Take, Store, Put, If, Goto, When, Invoke, Halt}
 use Rattle.tta_rcode.specs.declared.code.RStep.TheVariants as rstep
 use Rattle.tta_rcode.specs.declared.code.Exit.TheVariants as exit
-use Rattle.tta_lower.specs.Layout.{vars_of, place, steps_for, passes, gives, code_from, exit_for, keeps_ra, sets, sets_from, back}
-use Rattle.tta_select.specs.Needs.{op_of_step, op_of_exit, is_offered}
 use Rattle.tta_compose.specs.Needs.{need_of, are_offered}
 
 module _ (u : Units) (m : Machine) (c : Choice) (p : Program) (known : Known) where

@@ -1,16 +1,7 @@
 -- Blocks, liveness and homes of a program are there once.
 use Rattle.std.proofs.Common.{◌≡◌, ◌<◌, ◌≤◌, inl, inr, ℕ, zero, suc, List, [], ◌∷◌, Some, refl, sym, ap, subst, ◌∙◌, arith, slice_get}
 use Rattle.std.specs.Prelude.{◌↔◌}
-use Rattle.tta_program.specs.declared.program.Proc.{Proc}
-use Rattle.tta_flow.specs.declared.flow.Block.{Block}
-use Rattle.tta_flow.specs.Blocks.{StandsBefore, IsFlow}
-use Rattle.tta_flow.specs.Live.{live_before, live_after}
-use Rattle.tta_alloc.specs.declared.interval.Interval.{Interval}
-use Rattle.tta_alloc.specs.declared.home.Home.{Home}
-use Rattle.tta_alloc.specs.declared.home.Home.TheVariants.{Slot}
-use Rattle.tta_alloc.specs.Intervals.{IsBefore, AreTaken}
-use Rattle.tta_alloc.specs.Scan.{scan}
-use Rattle.tta_alloc.specs.Homes.{home_of}
+use Rattle.tta_compose.specs.Cited.{Proc, Block, StandsBefore, IsFlow, live_before, live_after, Interval, Home, Slot, IsBefore, AreTaken, scan, home_of}
 use Rattle.tta_compose.specs.Once.{OneFlow, OneLiveness, OneSlots}
 use Rattle.tta_alloc.proofs.TurnLemmas.{never_before}
 use Rattle.tta_list.proofs.Tests.{same_bool, some_same}

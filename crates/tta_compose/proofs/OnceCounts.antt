@@ -5,26 +5,11 @@ use Rattle.std.specs.Option.{option_map_or}
 use Rattle.std.specs.List.{sum_by}
 use Rattle.std.proofs.lemmas.Bool.Decides.{nat_tests}
 use Rattle.std.proofs.lemmas.List.Sums.{sum_by-cons}
-use Rattle.tta_ops.specs.Units.{Units}
-use Rattle.tta_program.specs.declared.operand.Src.{Src}
-use Rattle.tta_program.specs.declared.operand.Src.TheVariants.{Var, Word}
-use Rattle.tta_program.specs.declared.step.Step.{Step}
-use Rattle.tta_program.specs.declared.step.Step.TheVariants.{Copy, Apply, Load, Take, Store, Put, If, Goto, When, Invoke, Return, Halt, End}
-use Rattle.tta_program.specs.declared.program.Proc.{Proc}
-use Rattle.tta_program.specs.Program.{Program}
-use Rattle.tta_program.specs.Sequential.{step_at}
-use Rattle.tta_rcode.specs.Counts.{Need}
-use Rattle.tta_alloc.specs.declared.home.Home.{Home}
-use Rattle.tta_alloc.specs.declared.home.Home.TheVariants.{Reg, Slot}
-use Rattle.tta_alloc.specs.declared.homes.Homes.{Homes}
-use Rattle.tta_alloc.specs.Homes.{home_of}
-use Rattle.tta_alloc.specs.Allotted.{AreAllotted}
+use Rattle.tta_compose.specs.Cited.{Units, Src, Var, Step, Return, End, Proc, Program, step_at, Need, Home, Slot, Homes, home_of, AreAllotted, params_of, vars_of, Part, Entry, Steps, Returned, home_by, reg_of, in_slot, slot_src, traffic_step, over_steps, over_live, fetched, traffic, asks_step, asks_part, assigns_step, assigns_part}
+use Rattle.tta_program.specs.declared.operand.Src.TheVariants.{Word}
+use Rattle.tta_program.specs.declared.step.Step.TheVariants.{Copy, Apply, Load, Take, Store, Put, If, Goto, When, Invoke, Halt}
+use Rattle.tta_alloc.specs.declared.home.Home.TheVariants.{Reg}
 use Rattle.tta_lower.specs.Liveness.{Homes as Registers}
-use Rattle.tta_lower.specs.Layout.{params_of, vars_of}
-use Rattle.tta_lower.specs.declared.part.Part.{Part}
-use Rattle.tta_lower.specs.declared.part.Part.TheVariants.{Entry, Steps, Returned}
-use Rattle.tta_lower.specs.Known.{home_by, reg_of}
-use Rattle.tta_lower.specs.Counts.{in_slot, slot_src, traffic_step, over_steps, over_live, fetched, traffic, asks_step, asks_part, assigns_step, assigns_part}
 use Rattle.tta_compose.specs.Once.{OneCounts}
 use Rattle.tta_compose.proofs.Once.{one_slots}
 

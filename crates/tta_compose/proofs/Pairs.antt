@@ -5,15 +5,9 @@ use Rattle.std.specs.Option.{option_map_or}
 use Rattle.std.specs.List.{list_all}
 use Rattle.std.proofs.lemmas.Bool.{and_parts}
 use Rattle.std.proofs.lemmas.Bool.Decides.{nat_tests}
-use Rattle.tta_arch.specs.Machine.{Machine}
-use Rattle.tta_program.specs.declared.operand.Src.TheVariants.{Var, Word}
-use Rattle.tta_program.specs.declared.step.Step.{Step}
-use Rattle.tta_program.specs.declared.step.Step.TheVariants.{Copy, Apply, Load, Take, Store, Put, If, Goto, When, Invoke, Return, Halt, End}
-use Rattle.tta_program.specs.declared.program.Proc.{Proc}
-use Rattle.tta_program.specs.Program.{Program}
-use Rattle.tta_program.specs.Rules.{IsProgram}
-use Rattle.tta_program.specs.Direct.{only_constants, puts, alone}
-use Rattle.tta_select.specs.Direct.{brings}
+use Rattle.tta_compose.specs.Cited.{Machine, Var, Step, Return, End, Proc, Program, IsProgram, only_constants, puts, alone, brings}
+use Rattle.tta_program.specs.declared.operand.Src.TheVariants.{Word}
+use Rattle.tta_program.specs.declared.step.Step.TheVariants.{Copy, Apply, Load, Take, Store, Put, If, Goto, When, Invoke, Halt}
 use Rattle.tta_compose.specs.Direct.{is_brought, is_direct_proc, is_direct, constants_of}
 
 -- ---- the constants of a run

@@ -6,37 +6,10 @@ use Rattle.std.proofs.lemmas.Bool.{and_parts, or_cases}
 use Rattle.std.proofs.lemmas.Bool.Decides.{nat_tests}
 use Rattle.std.proofs.lemmas.List.{length-map}
 use Rattle.std.proofs.lemmas.Option.{slice_get-map}
-use Rattle.tta_ops.specs.Units.{Units}
-use Rattle.tta_arch.specs.declared.parts.Op.{Op}
-use Rattle.tta_arch.specs.Machine.{Machine}
-use Rattle.tta_arch.specs.Rules.{is_frame_op}
-use Rattle.tta_arch.specs.Effects.{Target}
-use Rattle.tta_connect.specs.declared.choice.Choice.{Choice}
-use Rattle.tta_connect.specs.Coverage.{hub_of}
-use Rattle.tta_program.specs.Program.{Program}
-use Rattle.tta_moves.specs.declared.items.BlockList.{BlockList}
-use Rattle.tta_moves.specs.declared.items.Item.{Item}
-use Rattle.tta_moves.specs.declared.items.ItemSource.{ItemSource}
-use Rattle.tta_moves.specs.declared.items.ItemSource.TheVariants.{Port, Address}
-use Rattle.tta_moves.specs.Touches.{source_of}
-use Rattle.tta_moves.specs.Forms.{is_straight}
-use Rattle.tta_list.specs.Legs.{AllPairs}
+use Rattle.tta_compose.specs.Cited.{Units, Op, Machine, is_frame_op, Target, Choice, hub_of, Program, BlockList, Item, ItemSource, Port, Address, source_of, is_straight, AllPairs, Aim, aim_of, is_scratch, is_address, AsksNoMore, Part, RBlock, asks_part, Known, parts, block_of, list_of, names, assigns_block, targets, is_start_of, is_frame_trigger, is_home, is_need, is_closed, IsListFor, TriggersNoMore, IsSelection, IsKnown, IsStandIn}
 use Rattle.tta_list.proofs.Lists.{list_all_one}
-use Rattle.tta_optim.specs.Kept.{Aim, aim_of, is_scratch, is_address, AsksNoMore}
 use Rattle.tta_optim.specs.Kept as kept
-use Rattle.tta_lower.specs.declared.part.Part.{Part}
-use Rattle.tta_rcode.specs.declared.code.RBlock.{RBlock}
-use Rattle.tta_lower.specs.Counts.{asks_part}
-use Rattle.tta_lower.specs.Liveness.{Known}
-use Rattle.tta_lower.specs.Lower.{parts, block_of}
-use Rattle.tta_select.specs.Select.{list_of}
-use Rattle.tta_rcode.specs.Counts.{names, assigns_block}
-use Rattle.tta_select.specs.Counts.{targets, is_start_of, is_frame_trigger, is_home, is_need}
-use Rattle.tta_select.specs.Lists.{is_closed}
-use Rattle.tta_select.specs.Statement.{IsListFor, TriggersNoMore, IsSelection}
 use Rattle.tta_select.proofs.Selecting.{selects}
-use Rattle.tta_lower.specs.Law.{IsKnown}
-use Rattle.tta_optim.specs.Kept.{IsStandIn}
 use Rattle.tta_compose.specs.Compiler.{IsPair, AreStandIns, raw}
 use Rattle.tta_compose.specs.Planned.{IsListOf, ArePlanned, ListsPlanned}
 use Rattle.tta_compose.proofs.Composed.{code, law, given, pairs_length}

@@ -2,15 +2,8 @@
 use Rattle.std.proofs.Common.{◌≡◌, ◌≤◌, ◌+◌, ◌*◌, ℕ, suc, List, [], ◌∷◌, Some, refl, ap, arith, length, slice_get}
 use Rattle.std.proofs.Math.Nat.{add-mul, suc-mul, mul-le-mul}
 use Rattle.std.proofs.lemmas.List.Sums.{sum_by-cons}
-use Rattle.tta_arch.specs.Machine.{Machine}
-use Rattle.tta_program.specs.Program.{step_count}
-use Rattle.tta_moves.specs.declared.items.BlockList.{BlockList}
-use Rattle.tta_moves.specs.declared.items.Placed.{Placed}
-use Rattle.tta_sched.specs.Room.{longest, HasRoom}
-use Rattle.tta_program.specs.Sizes.{arg_count, var_count}
-use Rattle.tta_select.specs.Counts.{items_in}
+use Rattle.tta_compose.specs.Cited.{Machine, step_count, BlockList, Placed, longest, HasRoom, arg_count, var_count, items_in, total_length}
 use Rattle.tta_select.proofs.Selecting.{selects}
-use Rattle.tta_link.specs.Blocks.{total_length}
 use Rattle.tta_compose.specs.Compiler.{AreStandIns, raw}
 use Rattle.tta_compose.specs.Room.{ListsFit}
 use Rattle.tta_compose.proofs.Composed.{code, law, given}

@@ -4,26 +4,14 @@ use Rattle.std.specs.Prelude.{if◌then◌else◌, ◌==◌, ◌&&◌, nat_lt, i
 use Rattle.std.specs.Option.{option_map_or}
 use Rattle.std.specs.List.{list_all}
 use Rattle.std.proofs.lemmas.Bool.{and_parts}
-use Rattle.tta_program.specs.declared.operand.Src.{Src}
-use Rattle.tta_program.specs.declared.operand.Src.TheVariants.{Var, Word}
-use Rattle.tta_program.specs.declared.step.Step.{Step}
-use Rattle.tta_program.specs.declared.step.Step.TheVariants.{Copy, Apply, Load, Take, Store, Put, If, Goto, When, Invoke, Return, Halt, End}
-use Rattle.tta_program.specs.declared.program.Proc.{Proc}
-use Rattle.tta_program.specs.Program.{Program}
-use Rattle.tta_program.specs.Rules.{IsProgram, is_src, is_step, is_call}
-use Rattle.tta_program.specs.Sequential.{step_at}
-use Rattle.tta_lower.specs.declared.part.Part.{Part}
-use Rattle.tta_lower.specs.declared.part.Part.TheVariants.{Entry, Steps, Returned}
-use Rattle.tta_rcode.specs.declared.code.RSrc.{RSrc}
+use Rattle.tta_compose.specs.Cited.{Src, Var, Step, Return, End, Proc, Program, IsProgram, is_src, is_step, is_call, step_at, Part, Entry, Steps, Returned, RSrc, Known, block_of, number_of, entry_number, vars_of, params_of, value_slot, var_slot, place, source, steps_for, passes, gives, code_from, exit_for, keeps_ra, sets, first_value, sets_from, back, word_src, word_step, word_exit}
+use Rattle.tta_program.specs.declared.operand.Src.TheVariants.{Word}
+use Rattle.tta_program.specs.declared.step.Step.TheVariants.{Copy, Apply, Load, Take, Store, Put, If, Goto, When, Invoke, Halt}
 use Rattle.tta_rcode.specs.declared.code.RSrc.TheVariants as rsrc
 use Rattle.tta_rcode.specs.declared.code.RStep.TheVariants as rstep
 use Rattle.tta_rcode.specs.declared.code.Exit.TheVariants as exit
 use Rattle.tta_rcode.specs.declared.code.Place.TheVariants as place_of
-use Rattle.tta_lower.specs.Liveness.{Known}
-use Rattle.tta_lower.specs.Lower.{block_of, number_of, entry_number}
-use Rattle.tta_lower.specs.Layout.{vars_of, params_of, value_slot, var_slot, place, source, steps_for, passes, gives, code_from, exit_for, keeps_ra, sets, first_value, sets_from, back}
 use Rattle.tta_lower.proofs.Steps.{step_of}
-use Rattle.tta_select.specs.Needs.{word_src, word_step, word_exit}
 use Rattle.tta_list.proofs.Lists.{and_both as both}
 
 module _ (p : Program) (known : Known) where

@@ -1,21 +1,6 @@
 -- The lists of a program, as the parts of the compiler make them one after another.
 use Rattle.std.specs.Prelude.{◌≡◌, ◌≤◌, true, List, length}
-use Rattle.tta_ops.specs.Units.{Units}
-use Rattle.tta_arch.specs.Machine.{Machine}
-use Rattle.tta_arch.specs.Rules.{IsMachine}
-use Rattle.tta_arch.specs.Over.{StandsOver}
-use Rattle.tta_connect.specs.declared.choice.Choice.{Choice}
-use Rattle.tta_connect.specs.Coverage.{IsChoice}
-use Rattle.tta_program.specs.Program.{Program}
-use Rattle.tta_program.specs.Rules.{IsProgram}
-use Rattle.tta_program.specs.Sizes.{frame_need}
-use Rattle.tta_moves.specs.declared.items.BlockList.{BlockList}
-use Rattle.tta_list.specs.Legs.{AllPairs}
-use Rattle.tta_optim.specs.Passes.{optimise_items}
-use Rattle.tta_optim.specs.Kept.{IsStandIn}
-use Rattle.tta_lower.specs.Liveness.{Known}
-use Rattle.tta_lower.specs.Lower.{lowered}
-use Rattle.tta_select.specs.Select.{selected}
+use Rattle.tta_compose.specs.Cited.{Units, Machine, IsMachine, StandsOver, Choice, IsChoice, Program, IsProgram, frame_need, BlockList, AllPairs, optimise_items, IsStandIn, Known, lowered, selected}
 use Rattle.tta_compose.specs.Needs.{are_offered}
 
 -- A machine with its choice, and a program that it can be given: each operation that the program needs is offered by a

@@ -2,36 +2,9 @@
 use Rattle.std.specs.Prelude.{◌≡◌, ℕ, ◌==◌, Bool, true, false, ◌&&◌, List, [], ◌∷◌, length, Option, Some, None, slice_get}
 use Rattle.std.specs.Option.{option_map_or}
 use Rattle.std.specs.List.{list_all}
-use Rattle.tta_ops.specs.Units.{Units}
-use Rattle.tta_arch.specs.Machine.{Machine}
-use Rattle.tta_arch.specs.Rules.{IsMachine}
+use Rattle.tta_compose.specs.Cited.{Units, Machine, IsMachine, Step, Proc, over, Program, data_of, IsProgram, only_constants, puts, one_block, IsLegalCode, Whole, data_in, Agrees, Placed, BlockList, is_list, Block, Live, IsFlow, IsLive, Homes, AreAllotted, lowered, known_by, out_of, brings, direct_list, IsLinked, AreBlocks, Means}
 use Rattle.tta_program.specs.declared.operand.Src.TheVariants.{Word}
-use Rattle.tta_program.specs.declared.step.Step.{Step}
 use Rattle.tta_program.specs.declared.step.Step.TheVariants.{Put, Halt}
-use Rattle.tta_program.specs.declared.program.Proc.{Proc}
-use Rattle.tta_list.specs.Laid.{over}
-use Rattle.tta_program.specs.Program.{Program, data_of}
-use Rattle.tta_program.specs.Rules.{IsProgram}
-use Rattle.tta_program.specs.Direct.{only_constants, puts}
-use Rattle.tta_rcode.specs.Direct.{one_block}
-use Rattle.tta_code.specs.Legal.{IsLegalCode}
-use Rattle.tta_code.specs.Whole.{Whole, data_in}
-use Rattle.tta_agree.specs.Agrees.{Agrees}
-use Rattle.tta_moves.specs.declared.items.Placed.{Placed}
-use Rattle.tta_moves.specs.declared.items.BlockList.{BlockList}
-use Rattle.tta_moves.specs.Slots.{is_list}
-use Rattle.tta_flow.specs.declared.flow.Block.{Block}
-use Rattle.tta_flow.specs.declared.live.Live.{Live}
-use Rattle.tta_flow.specs.Blocks.{IsFlow}
-use Rattle.tta_flow.specs.Live.{IsLive}
-use Rattle.tta_alloc.specs.declared.homes.Homes.{Homes}
-use Rattle.tta_alloc.specs.Allotted.{AreAllotted}
-use Rattle.tta_lower.specs.Lower.{lowered}
-use Rattle.tta_lower.specs.Known.{known_by}
-use Rattle.tta_select.specs.Direct.{out_of, brings, direct_list}
-use Rattle.tta_link.specs.Linked.{IsLinked}
-use Rattle.tta_link.specs.Blocks.{AreBlocks}
-use Rattle.tta_overlap.specs.Means.{Means}
 use Rattle.tta_compose.specs.Linking.{AreRespected}
 
 -- ---- the test

@@ -1,16 +1,6 @@
 -- What the lists of a program mean, and which lists may be placed for them.
 use Rattle.std.specs.Prelude.{List, length}
-use Rattle.tta_ops.specs.Units.{Units}
-use Rattle.tta_arch.specs.Machine.{Machine}
-use Rattle.tta_connect.specs.declared.choice.Choice.{Choice}
-use Rattle.tta_program.specs.Program.{Program}
-use Rattle.tta_moves.specs.declared.items.BlockList.{BlockList}
-use Rattle.tta_list.specs.Legs.{AllPairs}
-use Rattle.tta_optim.specs.Kept.{StandsFor}
-use Rattle.tta_lower.specs.Liveness.{Known}
-use Rattle.tta_overlap.specs.Means.{Means}
-use Rattle.tta_lower.specs.Law.{IsKnown}
-use Rattle.tta_optim.specs.Kept.{IsStandIn}
+use Rattle.tta_compose.specs.Cited.{Units, Machine, Choice, Program, BlockList, AllPairs, StandsFor, Known, Means, IsKnown, IsStandIn}
 use Rattle.tta_compose.specs.Compiler.{IsPair, AreStandIns, raw, optimised}
 use Rattle.tta_compose.specs.Planned.{HasForms}
 

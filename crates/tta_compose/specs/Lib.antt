@@ -1,3 +1,4 @@
+pub mod Cited
 pub mod Needs
 pub mod Compiler
 pub mod Laws

@@ -1,21 +1,6 @@
 -- Placements of a program's lists can be linked, and their code agrees with the program.
 use Rattle.std.specs.Prelude.{◌≡◌, ℕ, List, length, Some, slice_get}
-use Rattle.tta_ops.specs.Units.{Units}
-use Rattle.tta_arch.specs.Machine.{Machine}
-use Rattle.tta_connect.specs.declared.choice.Choice.{Choice}
-use Rattle.tta_list.specs.Laid.{over}
-use Rattle.tta_program.specs.Program.{Program, data_of}
-use Rattle.tta_code.specs.Legal.{IsLegalCode}
-use Rattle.tta_code.specs.Whole.{Whole, data_in}
-use Rattle.tta_agree.specs.Agrees.{Agrees}
-use Rattle.tta_moves.specs.declared.items.BlockList.{BlockList}
-use Rattle.tta_moves.specs.declared.items.Placed.{Placed}
-use Rattle.tta_moves.specs.Bounds.{Respects}
-use Rattle.tta_moves.specs.FirstFit.{IsFirstFit}
-use Rattle.tta_lower.specs.Liveness.{Known}
-use Rattle.tta_link.specs.Linked.{IsLinked}
-use Rattle.tta_link.specs.Blocks.{AreBlocks}
-use Rattle.tta_lower.specs.Law.{IsKnown}
+use Rattle.tta_compose.specs.Cited.{Units, Machine, Choice, over, Program, data_of, IsLegalCode, Whole, data_in, Agrees, BlockList, Placed, Respects, IsFirstFit, Known, IsLinked, AreBlocks, IsKnown}
 use Rattle.tta_compose.specs.Compiler.{IsPair, AreStandIns, raw}
 
 -- one placement for each list, which respects it

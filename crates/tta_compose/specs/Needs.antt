@@ -1,18 +1,9 @@
 -- What a program needs of a machine's units.
 use Rattle.std.specs.Prelude.{ℕ, ◌+◌, Bool, if◌then◌else◌, List, [], ◌∷◌, Option, Some, None, option_map, slice_index}
 use Rattle.std.specs.List.{list_all}
-use Rattle.tta_ops.specs.Units.{Units}
-use Rattle.tta_arch.specs.declared.parts.Op.{Op}
-use Rattle.tta_arch.specs.declared.parts.Op.TheVariants.{Ldw, Stw, Out, Take as TakeIn, Set}
-use Rattle.tta_arch.specs.Machine.{Machine}
-use Rattle.tta_arch.specs.Effects.{first_some}
-use Rattle.tta_connect.specs.declared.choice.Choice.{Choice}
-use Rattle.tta_program.specs.declared.step.Step.{Step}
+use Rattle.tta_compose.specs.Cited.{Units, Op, Ldw, Stw, Out, Set, Machine, first_some, Choice, Step, Proc, Program, test_op, is_offered}
+use Rattle.tta_arch.specs.declared.parts.Op.TheVariants.{Take as TakeIn}
 use Rattle.tta_program.specs.declared.step.Step.TheVariants.{Apply, Load, Take, Store, Put, If, When}
-use Rattle.tta_program.specs.declared.program.Proc.{Proc}
-use Rattle.tta_program.specs.Program.{Program}
-use Rattle.tta_select.specs.Select.{test_op}
-use Rattle.tta_select.specs.Needs.{is_offered}
 
 -- the operation that a step needs, if it needs one
 abbrev pub need_of : Units → Step → Option Op

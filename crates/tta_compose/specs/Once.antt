@@ -1,22 +1,8 @@
 -- The blocks and the liveness of a program are there once, and so are the variables that have slots. So what is said of
 -- lists by them is said by the program alone: the homes may differ, but not how many slots and registers the parts name.
 use Rattle.std.specs.Prelude.{◌≡◌, ◌↔◌, ℕ, ◌<◌, Bool, List, Some, slice_get}
-use Rattle.tta_ops.specs.Units.{Units}
-use Rattle.tta_program.specs.declared.program.Proc.{Proc}
-use Rattle.tta_program.specs.Program.{Program}
-use Rattle.tta_rcode.specs.Counts.{Need}
-use Rattle.tta_flow.specs.declared.flow.Block.{Block}
-use Rattle.tta_flow.specs.declared.live.Live.{Live}
-use Rattle.tta_flow.specs.Blocks.{IsFlow}
-use Rattle.tta_flow.specs.Live.{IsLive, live_before, live_after}
-use Rattle.tta_alloc.specs.declared.home.Home.TheVariants.{Slot}
-use Rattle.tta_alloc.specs.declared.homes.Homes.{Homes}
-use Rattle.tta_alloc.specs.Homes.{home_of}
-use Rattle.tta_alloc.specs.Allotted.{AreAllotted}
+use Rattle.tta_compose.specs.Cited.{Units, Proc, Program, Need, Block, Live, IsFlow, IsLive, live_before, live_after, Slot, Homes, home_of, AreAllotted, Part, home_by, traffic, asks_part, assigns_part}
 use Rattle.tta_lower.specs.Liveness.{Homes as Registers}
-use Rattle.tta_lower.specs.declared.part.Part.{Part}
-use Rattle.tta_lower.specs.Known.{home_by}
-use Rattle.tta_lower.specs.Counts.{traffic, asks_part, assigns_part}
 
 -- a program has one list of blocks
 abbrev pub OneFlow : Type 0

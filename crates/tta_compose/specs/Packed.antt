@@ -1,24 +1,7 @@
 -- Code that is packed: placed lists that do no more than a program asks for, and in which nothing is left to do.
 use Rattle.std.specs.Prelude.{◌≡◌, ℕ, List, [], length, Some, slice_get}
 use Rattle.std.specs.Option.{option_map_or}
-use Rattle.tta_ops.specs.Units.{Units}
-use Rattle.tta_arch.specs.Machine.{Machine}
-use Rattle.tta_connect.specs.declared.choice.Choice.{Choice}
-use Rattle.tta_connect.specs.Coverage.{hub_of, homes_of}
-use Rattle.tta_program.specs.Program.{Program}
-use Rattle.tta_flow.specs.declared.flow.Block.{Block}
-use Rattle.tta_flow.specs.declared.live.Live.{Live}
-use Rattle.tta_flow.specs.Blocks.{IsFlow}
-use Rattle.tta_flow.specs.Live.{IsLive}
-use Rattle.tta_alloc.specs.declared.homes.Homes.{Homes}
-use Rattle.tta_alloc.specs.Allotted.{AreAllotted}
-use Rattle.tta_lower.specs.Known.{known_by}
-use Rattle.tta_code.specs.declared.code.Code.{Code}
-use Rattle.tta_moves.specs.declared.items.BlockList.{BlockList}
-use Rattle.tta_moves.specs.declared.items.Placed.{Placed}
-use Rattle.tta_link.specs.Linked.{IsLinked}
-use Rattle.tta_link.specs.Blocks.{total_length}
-use Rattle.tta_overlap.specs.Means.{Means}
+use Rattle.tta_compose.specs.Cited.{Units, Machine, Choice, hub_of, homes_of, Program, Block, Live, IsFlow, IsLive, Homes, AreAllotted, known_by, Code, BlockList, Placed, IsLinked, total_length, Means}
 use Rattle.tta_compose.specs.Linking.{AreFirstFits}
 use Rattle.tta_compose.specs.Planned.{ArePlanned, HasForms}
 

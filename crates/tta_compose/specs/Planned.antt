@@ -1,27 +1,7 @@
 -- What is known of the list of each part of a program, beside what all lists mean.
 use Rattle.std.specs.Prelude.{◌≡◌, ◌≤◌, ℕ, true, false, List, length, map, Some, slice_get}
 use Rattle.std.specs.List.{list_all}
-use Rattle.tta_ops.specs.Units.{Units}
-use Rattle.tta_arch.specs.declared.parts.Op.{Op}
-use Rattle.tta_arch.specs.declared.parts.UnitOp.{UnitOp}
-use Rattle.tta_arch.specs.Machine.{Machine}
-use Rattle.tta_arch.specs.Effects.{op_at}
-use Rattle.tta_arch.specs.Rules.{is_frame_op}
-use Rattle.tta_connect.specs.declared.choice.Choice.{Choice}
-use Rattle.tta_connect.specs.Coverage.{hub_of}
-use Rattle.tta_program.specs.Program.{Program}
-use Rattle.tta_moves.specs.declared.items.BlockList.{BlockList}
-use Rattle.tta_moves.specs.Touches.{source_of}
-use Rattle.tta_moves.specs.Slots.{is_list}
-use Rattle.tta_moves.specs.Forms.{is_bypassed, is_shared, is_lively, is_straight}
-use Rattle.tta_lower.specs.declared.part.Part.{Part}
-use Rattle.tta_lower.specs.Liveness.{Known}
-use Rattle.tta_lower.specs.Lower.{parts, block_of}
-use Rattle.tta_lower.specs.Counts.{traffic, asks_part, assigns_part}
-use Rattle.tta_select.specs.Select.{home_pair}
-use Rattle.tta_select.specs.Counts.{targets, is_trigger_of, is_start_of, is_frame_trigger, is_home, is_need}
-use Rattle.tta_select.specs.Lists.{is_closed}
-use Rattle.tta_lower.specs.Law.{IsKnown}
+use Rattle.tta_compose.specs.Cited.{Units, Op, UnitOp, Machine, op_at, is_frame_op, Choice, hub_of, Program, BlockList, source_of, is_list, is_bypassed, is_shared, is_lively, is_straight, Part, Known, parts, block_of, traffic, asks_part, assigns_part, home_pair, targets, is_trigger_of, is_start_of, is_frame_trigger, is_home, is_need, is_closed, IsKnown}
 use Rattle.tta_compose.specs.Compiler.{IsPair, AreStandIns, raw}
 
 module _ (u : Units) (m : Machine) (c : Choice) (p : Program) (known : Known) where

@@ -1,16 +1,6 @@
 -- How long the placed lists of a program are together at most.
 use Rattle.std.specs.Prelude.{◌≡◌, ℕ, ◌+◌, ◌*◌, ◌≤◌, List, length, Some, slice_get}
-use Rattle.tta_ops.specs.Units.{Units}
-use Rattle.tta_arch.specs.Machine.{Machine}
-use Rattle.tta_connect.specs.declared.choice.Choice.{Choice}
-use Rattle.tta_program.specs.Program.{Program, step_count}
-use Rattle.tta_moves.specs.declared.items.Placed.{Placed}
-use Rattle.tta_lower.specs.Liveness.{Known}
-use Rattle.tta_program.specs.Sizes.{arg_count, var_count}
-use Rattle.tta_link.specs.Blocks.{total_length}
-use Rattle.tta_lower.specs.Law.{IsKnown}
-use Rattle.tta_moves.specs.declared.items.BlockList.{BlockList}
-use Rattle.tta_sched.specs.Room.{longest, HasRoom}
+use Rattle.tta_compose.specs.Cited.{Units, Machine, Choice, Program, step_count, Placed, Known, arg_count, var_count, total_length, IsKnown, BlockList, longest, HasRoom}
 use Rattle.tta_compose.specs.Compiler.{IsPair, AreStandIns, raw}
 use Rattle.tta_compose.specs.Linking.{AreRespected}
 

@@ -1,6 +1,6 @@
 -- The rules and the choices on machines of one bus and of three.
 use Rattle.std.specs.Prelude.{◌≡◌, [], ◌∷◌, ◌++◌, Some, None, true, false, codes, refl}
-use Rattle.tta_arch.specs.Machine.{Machine}
+use Rattle.tta_connect.specs.Cited.{Machine}
 use Rattle.tta_arch.specs.declared.ends.Source.TheVariants as source
 use Rattle.tta_arch.specs.declared.ends.Dest.TheVariants as dest
 use Rattle.tta_arch.proofs.Samples.{one_bus, three_buses}

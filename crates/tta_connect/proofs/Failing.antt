@@ -1,11 +1,8 @@
 -- Which rule fails first.
 use Rattle.std.proofs.Common.{◌≡◌, ℕ, true, false, Some, None, refl, sym, ◌∙◌}
 use Rattle.std.specs.Prelude.{◌&&◌, is_some}
-use Rattle.tta_arch.specs.declared.parts.Op.{Op}
-use Rattle.tta_arch.specs.declared.parts.Op.TheVariants.{Ldf, Stf}
+use Rattle.tta_connect.specs.Cited.{Op, Ldf, Stf, Machine, has_bit}
 use Rattle.tta_arch.specs.declared.ends.Source.TheVariants as source
-use Rattle.tta_arch.specs.Machine.{Machine}
-use Rattle.tta_arch.specs.Joins.{has_bit}
 use Rattle.tta_connect.specs.declared.choice.Choice.{Choice}
 use Rattle.tta_connect.specs.Coverage.{failed_rule, hub_of, has_words, guard_register, some_bus, into, is_usable_at, offered, offered_by, IsChoice}
 use Rattle.tta_connect.proofs.UnitSets.{same_offer}

@@ -2,10 +2,8 @@
 use Rattle.std.proofs.Common.{◌≡◌, ◌≤◌, ℕ, List, [], ◌∷◌, Bool, true, false, ◌&&◌, nat_le, refl, ap, ◌∙◌, length}
 use Rattle.std.specs.List.{list_all}
 use Rattle.std.proofs.lemmas.Bool.{and_parts}
-use Rattle.tta_arch.specs.declared.parts.Socket.{Socket}
+use Rattle.tta_connect.specs.Cited.{Socket, Machine, IsMachine, is_unit, is_socket, is_port_socket, is_unit_op, are_different, same_op}
 use Rattle.tta_arch.specs.declared.parts.Unit.{Unit as OpUnit}
-use Rattle.tta_arch.specs.Machine.{Machine}
-use Rattle.tta_arch.specs.Rules.{IsMachine, is_unit, is_socket, is_port_socket, is_unit_op, are_different, same_op}
 
 -- a machine's units are few, and so are the operations of each
 pub few_units : (m : Machine) → IsMachine m → length m.units ≤ 32

@@ -3,9 +3,7 @@ use Rattle.std.proofs.Common.{◌≡◌, ◌<◌, ◌≤◌, ◌+◌, ◌-◌, �
 use Rattle.std.specs.Prelude.{if◌then◌else◌}
 use Rattle.std.specs.List.{range_with_len}
 use Rattle.std.proofs.lemmas.List.{append_assoc, drop_all, drop_more}
-use Rattle.tta_arch.specs.Machine.{Machine}
-use Rattle.tta_arch.specs.declared.parts.File.{File}
-use Rattle.tta_arch.specs.Effects.{or_else}
+use Rattle.tta_connect.specs.Cited.{Machine, File, or_else}
 use Rattle.tta_connect.specs.Coverage.{first_by, registers_from, homes_from, is_home_file}
 
 -- the first answer from a place on is this place's, or else that from the next on

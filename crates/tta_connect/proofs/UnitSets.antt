@@ -5,8 +5,7 @@ use Rattle.std.specs.Option.{option_map_or}
 use Rattle.std.proofs.lemmas.Bool.{cases_lt, lt-ltb, le-ltb}
 use Rattle.std.proofs.lemmas.Option.{slice_get_read, slice_get_past}
 use Rattle.tta_arch.specs.declared.parts.Unit.{Unit as OpUnit}
-use Rattle.tta_arch.specs.declared.parts.Op.{Op}
-use Rattle.tta_arch.specs.Machine.{Machine}
+use Rattle.tta_connect.specs.Cited.{Op, Machine}
 use Rattle.tta_connect.specs.Coverage.{is_usable, is_usable_at, first_by, call_in}
 
 -- the unit that stands at a place of the list

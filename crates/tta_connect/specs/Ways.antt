@@ -1,9 +1,6 @@
 -- How a word gets from one end to another.
 use Rattle.std.specs.Prelude.{ℕ, Bool, ◌&&◌, if◌then◌else◌, Option, Some, None}
-use Rattle.tta_arch.specs.declared.ends.GuardRef.{GuardRef}
-use Rattle.tta_arch.specs.declared.ends.Source.{Source}
-use Rattle.tta_arch.specs.declared.ends.Dest.{Dest}
-use Rattle.tta_arch.specs.Machine.{Machine}
+use Rattle.tta_connect.specs.Cited.{GuardRef, Source, Dest, Machine}
 use Rattle.tta_connect.specs.declared.way.Way.{Way}
 use Rattle.tta_connect.specs.declared.way.Way.TheVariants.{Direct, Hub}
 use Rattle.tta_connect.specs.Coverage.{some_bus, from, into}

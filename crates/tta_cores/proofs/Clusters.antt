@@ -5,7 +5,7 @@ use Rattle.std.specs.Option.{option_map_or}
 use Rattle.std.proofs.lemmas.Option.{slice_get_within}
 use Rattle.std.proofs.lemmas.Bool.{cases_eq}
 use Rattle.tta_list.proofs.Prefixes.{prefix_same, prefix_chain}
-use Rattle.tta_list.specs.Prefix.{IsPrefixOf}
+use Rattle.tta_cores.specs.Cited.{IsPrefixOf}
 use Rattle.tta_cores.specs.Network.{Network, Joined, output_of, feeder_of, fed_to, after_step, stepped, turn, interleaved}
 use Rattle.tta_cores.specs.Queues.{UsesQueues}
 use Rattle.tta_cores.proofs.Turns.{IsPast, past_longer, past_next}

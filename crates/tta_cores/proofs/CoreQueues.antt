@@ -6,19 +6,11 @@ use Rattle.std.specs.List.{list_any, filter_map, cons_option, AllByRecursion}
 use Rattle.std.proofs.lemmas.Bool.{or_parts}
 use Rattle.tta_arch.proofs.Outputs.{puts_prefix}
 use Rattle.tta_list.proofs.Prefixes.{prefix_same, prefix_chain}
-use Rattle.tta_list.specs.Prefix.{IsPrefixOf}
-use Rattle.tta_list.specs.Input.{left}
+use Rattle.tta_cores.specs.Cited.{IsPrefixOf, left, Units, Op, Ldw, Stw, Ldf, Stf, Out, Set, Machine, IsMachine, Kind, Jumps, Calls, Halts, Written, Brought, Start, has_result, result_word, store_data, store_frame, put_out, bring, write_of, take_in, control_of, first_some, Instruction, Code, IsLegalCode, is_legal, Fault, Result', Pending, result_of, read_source, effects_of, fault_of, pending_after, takes_effect, lands, acts, or_wait, or_fault}
 use Rattle.tta_list.proofs.Lists.{all_one}
-use Rattle.tta_ops.specs.Units.{Units}
-use Rattle.tta_arch.specs.declared.parts.Op.{Op}
-use Rattle.tta_arch.specs.declared.parts.Op.TheVariants.{Ldw, Stw, Ldf, Stf, Out, Take, Set}
-use Rattle.tta_arch.specs.Machine.{Machine}
-use Rattle.tta_arch.specs.Rules.{IsMachine}
-use Rattle.tta_arch.specs.Effects.{Kind, Jumps, Calls, Halts, Written, Brought, Start, has_result, result_word, store_data, store_frame, put_out, bring, write_of, takes, take_in, control_of, first_some}
-use Rattle.tta_code.specs.declared.code.Instruction.{Instruction}
-use Rattle.tta_code.specs.declared.code.Code.{Code}
-use Rattle.tta_code.specs.Legal.{IsLegalCode, is_legal}
-use Rattle.tta_code.specs.Cycle.{State, Outcome, Running, Halted, Waiting, Fault, Result', Pending, result_of, read_source, effects_of, fault_of, pending_after, takes_effect, lands, acts, waits, or_wait, or_fault, carry_out, next_of, next}
+use Rattle.tta_arch.specs.declared.parts.Op.TheVariants.{Take}
+use Rattle.tta_arch.specs.Effects.{takes}
+use Rattle.tta_code.specs.Cycle.{State, Outcome, Running, Halted, Waiting, waits, carry_out, next_of, next}
 use Rattle.tta_cores.specs.declared.cores.Core.{Core}
 use Rattle.tta_cores.specs.Queues.{UsesQueues}
 use Rattle.tta_cores.specs.Cluster.{is_waiting, cycle_of, cycles}

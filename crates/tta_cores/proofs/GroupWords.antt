@@ -4,11 +4,8 @@ use Rattle.std.specs.Prelude.{if◌then◌else◌, slice_get}
 use Rattle.std.specs.Option.{option_map_or}
 use Rattle.std.specs.List.{AllByRecursion}
 use Rattle.tta_list.proofs.Lists.{all_one, slice_get-changed}
-use Rattle.tta_ops.specs.Units.{Units}
-use Rattle.tta_program.specs.Program.{Program}
-use Rattle.tta_program.specs.Rules.{IsProgram}
+use Rattle.tta_cores.specs.Cited.{Units, Program, IsProgram, AreWords}
 use Rattle.tta_program.specs.Sequential.{State, next}
-use Rattle.tta_agree.specs.Agrees.{AreWords}
 use Rattle.tta_cores.specs.Network.{Network, Joined, output_of, feeder_of, fed_to, after_step, stepped, turn, interleaved}
 use Rattle.tta_cores.specs.Programs.{step_of, steps_of}
 use Rattle.tta_cores.proofs.Clusters.{next_core, turn_none, turn_some}

@@ -5,7 +5,7 @@ use Rattle.std.specs.Option.{option_map_or}
 use Rattle.std.proofs.lemmas.Bool.{cases_eq}
 use Rattle.std.proofs.lemmas.List.Sums.{fold-append}
 use Rattle.tta_list.proofs.Prefixes.{prefix_same, prefix_chain}
-use Rattle.tta_list.specs.Prefix.{IsPrefixOf}
+use Rattle.tta_cores.specs.Cited.{IsPrefixOf}
 use Rattle.tta_cores.specs.Network.{Network, Joined, output_of, feeder_of, fed_to, after_step, turn, interleaved, joined, AreAtRest, AreComparable}
 use Rattle.tta_cores.specs.Queues.{UsesQueues}
 use Rattle.tta_cores.proofs.Prefixes.{prefixes_meet}

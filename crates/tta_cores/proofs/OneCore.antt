@@ -2,8 +2,7 @@
 use Rattle.std.proofs.Common.{◌≡◌, inl, inr, ℕ, zero, suc, ◌≤◌, Bool, true, false, List, ◌++◌, refl, sym, ap, subst, ◌∙◌, arith}
 use Rattle.std.proofs.lemmas.Bool.{cases_lt}
 use Rattle.tta_list.proofs.Prefixes.{prefix_same, prefix_chain}
-use Rattle.tta_list.specs.Prefix.{IsPrefixOf}
-use Rattle.tta_list.specs.Iterate.{iterate}
+use Rattle.tta_cores.specs.Cited.{IsPrefixOf, iterate}
 use Rattle.tta_cores.specs.Network.{Network}
 use Rattle.tta_cores.specs.Queues.{UsesQueues}
 

@@ -4,14 +4,10 @@ use Rattle.std.specs.Prelude.{slice_get, zip}
 use Rattle.std.specs.Option.{option_map_or}
 use Rattle.std.specs.List.{AllByRecursion}
 use Rattle.tta_list.proofs.Prefixes.{prefix_same, prefix_chain}
-use Rattle.tta_list.specs.Iterate.{iterate}
+use Rattle.tta_cores.specs.Cited.{iterate, Units, Program, IsProgram, AreWords, IsGiven, code_at, program_at}
 use Rattle.tta_list.proofs.Lists.{all_one}
-use Rattle.tta_ops.specs.Units.{Units}
-use Rattle.tta_program.specs.Program.{Program}
-use Rattle.tta_program.specs.Rules.{IsProgram}
 use Rattle.tta_program.specs.Sequential as program
 use Rattle.tta_code.specs.Cycle.{State, next, start}
-use Rattle.tta_agree.specs.Agrees.{AreWords, IsGiven, code_at, program_at}
 use Rattle.tta_cores.specs.declared.cores.Core.{Core}
 use Rattle.tta_cores.specs.Network.{Network, Joined, output_of, feeder_of, fed_to, interleaved, joined}
 use Rattle.tta_cores.specs.Cluster.{cycles, cycle_of, first_states}

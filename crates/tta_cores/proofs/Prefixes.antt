@@ -1,6 +1,6 @@
 -- Lists that begin others.
 use Rattle.std.proofs.Common.{◌≡◌, inl, inr, ⊎_elim, ℕ, List, [], ◌∷◌, ◌++◌, refl, sym, ap, ◌∙◌}
-use Rattle.tta_list.specs.Prefix.{IsPrefixOf}
+use Rattle.tta_cores.specs.Cited.{IsPrefixOf}
 use Rattle.tta_cores.specs.Network.{AreComparable}
 
 -- of two lists that begin one, one begins the other

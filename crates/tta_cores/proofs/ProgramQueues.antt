@@ -3,12 +3,9 @@ use Rattle.std.proofs.Common.{◌≡◌, ℕ, ◌+◌, Bool, true, false, List, 
 use Rattle.std.specs.Prelude.{if◌then◌else◌, slice_get, slice_index, is_none, ◌&&◌}
 use Rattle.std.specs.Option.{option_map_or}
 use Rattle.tta_list.proofs.Prefixes.{prefix_same}
-use Rattle.tta_list.specs.Prefix.{IsPrefixOf}
-use Rattle.tta_ops.specs.Units.{Units}
-use Rattle.tta_program.specs.declared.step.Step.{Step}
-use Rattle.tta_program.specs.declared.step.Step.TheVariants.{Copy, Apply, Load, Take, Store, Put, If, Goto, When, Invoke, Return, Halt, End}
-use Rattle.tta_program.specs.Program.{Program}
-use Rattle.tta_program.specs.Sequential.{State, Frame, Outcome, Running, Halted, Waiting, step_at, holds, operand, next, next_of, go_on, carry_out, goes_through, takes, waits, returns, take_value, assigns, goes_to}
+use Rattle.tta_cores.specs.Cited.{IsPrefixOf, Units, Step, Copy, Apply, Load, Store, Put, If, Goto, When, Invoke, Return, Halt, End, Program, Frame, step_at, holds, operand, go_on, goes_through, take_value, assigns, goes_to}
+use Rattle.tta_program.specs.declared.step.Step.TheVariants.{Take}
+use Rattle.tta_program.specs.Sequential.{State, Outcome, Running, Halted, Waiting, next, next_of, carry_out, takes, waits, returns}
 use Rattle.tta_program.proofs.Growing.{carry_grows}
 use Rattle.tta_cores.specs.Queues.{UsesQueues}
 use Rattle.tta_cores.specs.Programs.{is_waiting, step_of, steps_of}

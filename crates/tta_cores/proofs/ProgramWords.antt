@@ -5,18 +5,9 @@ use Rattle.std.specs.Option.{option_map_or}
 use Rattle.std.specs.List.{list_all, AllByRecursion}
 use Rattle.std.proofs.lemmas.Bool.{ltb-true, and_parts}
 use Rattle.tta_list.proofs.Lists.{all_append, all_one, list_all_one}
-use Rattle.tta_ops.specs.Units.{Units}
-use Rattle.tta_program.specs.declared.operand.Src.{Src}
-use Rattle.tta_program.specs.declared.operand.Src.TheVariants.{Var, Word}
-use Rattle.tta_program.specs.declared.step.Step.{Step}
-use Rattle.tta_program.specs.declared.step.Step.TheVariants.{Copy, Apply, Load, Take, Store, Put, If, Goto, When, Invoke, Return, Halt, End}
-use Rattle.tta_program.specs.declared.program.Proc.{Proc}
-use Rattle.tta_program.specs.declared.program.DataLine.{DataLine}
-use Rattle.tta_list.specs.Laid.{over}
-use Rattle.tta_program.specs.Program.{Program, data_of, datum_of}
-use Rattle.tta_program.specs.Rules.{IsProgram, IsProc, is_src, is_step, is_call, is_datum}
-use Rattle.tta_program.specs.Sequential.{State, Frame, Outcome, Running, Halted, Waiting, step_at, holds, operand, enter, next, next_of, go_on, carry_out, goes_through, waits, returns, take_value, assigns, goes_to}
-use Rattle.tta_agree.specs.Agrees.{AreWords}
+use Rattle.tta_cores.specs.Cited.{Units, Src, Var, Word, Step, Copy, Apply, Load, Store, Put, If, Goto, When, Invoke, Return, Halt, End, Proc, DataLine, over, Program, data_of, datum_of, IsProgram, IsProc, is_src, is_step, is_call, is_datum, Frame, step_at, holds, operand, enter, go_on, goes_through, take_value, assigns, goes_to, AreWords}
+use Rattle.tta_program.specs.declared.step.Step.TheVariants.{Take}
+use Rattle.tta_program.specs.Sequential.{State, Outcome, Running, Halted, Waiting, next, next_of, carry_out, waits, returns}
 use Rattle.tta_agree.proofs.Words.{set_words, none_words, laid_words}
 
 -- ---- lists of words

@@ -3,7 +3,7 @@ use Rattle.std.proofs.Common.{◌≡◌, ℕ, zero, suc, ◌+◌, ◌≤◌, Boo
 use Rattle.std.specs.Prelude.{slice_get}
 use Rattle.std.specs.Option.{option_map_or}
 use Rattle.tta_list.proofs.Prefixes.{prefix_same, prefix_chain}
-use Rattle.tta_list.specs.Prefix.{IsPrefixOf}
+use Rattle.tta_cores.specs.Cited.{IsPrefixOf}
 use Rattle.tta_cores.specs.Network.{Network, Joined, output_of, fed_to, after_step, turn, interleaved, joined}
 use Rattle.tta_cores.specs.Queues.{UsesQueues}
 use Rattle.tta_cores.proofs.OneCore.{run, put_by, put_longer, put_later, put_all}

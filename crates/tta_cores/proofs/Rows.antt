@@ -1,16 +1,12 @@
 -- Two cores, and two programs, in two orders of their steps.
 use Rattle.std.specs.Prelude.{◌≡◌, ℕ, List, [], ◌∷◌, ◌++◌, Some, None, Option, refl, replicate}
 use Rattle.std.specs.List.{concat}
-use Rattle.tta_ops.specs.Units.{Units}
+use Rattle.tta_cores.specs.Cited.{Units, Var, Word, Step, Program, Code}
 use Rattle.tta_arch.specs.declared.ends.Source.TheVariants as source
 use Rattle.tta_arch.specs.declared.ends.Dest.TheVariants as dest
 use Rattle.tta_arch.proofs.Samples.{with_input}
-use Rattle.tta_program.specs.declared.operand.Src.TheVariants.{Var, Word}
-use Rattle.tta_program.specs.declared.step.Step.{Step}
 use Rattle.tta_program.specs.declared.step.Step.TheVariants as step
-use Rattle.tta_program.specs.Program.{Program}
 use Rattle.tta_program.specs.Sequential as program
-use Rattle.tta_code.specs.declared.code.Code.{Code}
 use Rattle.tta_code.specs.Cycle.{next}
 use Rattle.tta_code.proofs.Rows.{go, three}
 use Rattle.tta_cores.specs.declared.cores.Core.{Core}

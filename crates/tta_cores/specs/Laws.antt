@@ -1,16 +1,7 @@
 -- The laws: the order in which cores make their steps makes no difference to what they output.
 use Rattle.std.specs.Prelude.{◌≡◌, ℕ, List, Option, map, length}
 use Rattle.std.specs.List.{AllByRecursion}
-use Rattle.tta_list.specs.Prefix.{IsPrefixOf}
-use Rattle.tta_ops.specs.Units.{Units}
-use Rattle.tta_arch.specs.Machine.{Machine}
-use Rattle.tta_arch.specs.Rules.{IsMachine}
-use Rattle.tta_list.specs.Laid.{over}
-use Rattle.tta_program.specs.Program.{Program, data_of}
-use Rattle.tta_program.specs.Rules.{IsProgram}
-use Rattle.tta_code.specs.Legal.{IsLegalCode}
-use Rattle.tta_code.specs.Whole.{Whole, data_in}
-use Rattle.tta_agree.specs.Agrees.{AgreesAt, AreWords}
+use Rattle.tta_cores.specs.Cited.{IsPrefixOf, Units, Machine, IsMachine, over, Program, data_of, IsProgram, IsLegalCode, Whole, data_in, AgreesAt, AreWords}
 use Rattle.tta_cores.specs.declared.cores.Core.{Core}
 use Rattle.tta_cores.specs.Network.{AreComparable}
 use Rattle.tta_cores.specs.Cluster.{cluster_output, IsClusterRest}

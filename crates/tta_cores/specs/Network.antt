@@ -1,7 +1,7 @@
 -- Cores joined by queues, whatever a core's step is.
 use Rattle.std.specs.Prelude.{◌≡◌, ℕ, ◌+◌, ◌-◌, Bool, if◌then◌else◌, List, [], length, fold, drop, map, Option, None, slice_get, slice_set, ◌⊎◌}
 use Rattle.std.specs.Option.{option_map_or}
-use Rattle.tta_list.specs.Prefix.{IsPrefixOf}
+use Rattle.tta_cores.specs.Cited.{IsPrefixOf}
 
 -- ---- cores
 

@@ -1,6 +1,6 @@
 -- What steps do with their queues.
 use Rattle.std.specs.Prelude.{◌≡◌, ℕ, true, false, List, ◌++◌}
-use Rattle.tta_list.specs.Prefix.{IsPrefixOf}
+use Rattle.tta_cores.specs.Cited.{IsPrefixOf}
 use Rattle.tta_cores.specs.Network.{Network}
 
 -- Steps use their queues as such: words are taken from the first of the input on, and put at the end of the output. Only

@@ -2,19 +2,10 @@
 use Rattle.std.proofs.Common.{◌≡◌, ℕ, suc, zero, ◌+◌, ◌==◌, Bool, true, false, if◌then◌else◌, List, [], ◌∷◌, ◌++◌, map, drop, length, Option, Some, None, option_to_list, not, append-nil, refl, sym, ap, ◌∙◌, subst, slice_get, true≢false, arith}
 use Rattle.std.proofs.Math.Seq.{drop-append_seam}
 use Rattle.std.specs.List.{filter_map}
-use Rattle.tta_ops.specs.Units.{Units}
-use Rattle.tta_arch.specs.Machine.{Machine}
-use Rattle.tta_arch.specs.Effects.{Kind, Jumps, Calls, Halts, control_of, first_some, bring, write_of, start_of}
-use Rattle.tta_code.specs.declared.code.Code.{Code}
-use Rattle.tta_code.specs.declared.code.Instruction.{Instruction}
-use Rattle.tta_code.specs.Cycle.{State, Outcome, Running, Halted, Waiting, Fault, Pending, next, next_of, carry_out, or_fault, or_wait, waits, acts, lands, takes_effect, pending_after, effects_of, read_source, fault_of}
+use Rattle.tta_debug.specs.Cited.{Units, Machine, Kind, Jumps, Calls, Halts, control_of, first_some, bring, write_of, start_of, Code, Instruction, State, Outcome, Running, Halted, Waiting, Fault, Pending, next, next_of, carry_out, or_fault, or_wait, waits, acts, lands, takes_effect, pending_after, effects_of, read_source, fault_of, reply_text, left, Stands, Output, IsPut, IsCut}
 use Rattle.tta_print.specs.declared.reply.Reply.TheVariants as reply
-use Rattle.tta_print.specs.Replies.{reply_text}
-use Rattle.tta_list.specs.Input.{left}
-use Rattle.tta_sim.specs.Held.{Stands}
 use Rattle.tta_debug.specs.Debugged.{Debugged, Said, texts, is_running, is_waiting, moved, puts, rests, saying, cycles}
 use Rattle.tta_debug.specs.Sessions.{Session', IsOver, IsMade, word_text}
-use Rattle.tta_ports.specs.Output.{Output, IsPut, IsCut}
 
 -- ---- how a cycle leaves the run
 

@@ -3,13 +3,10 @@ use Rattle.std.proofs.Common.{◌≡◌, ℕ, suc, Bool, true, false, true≢fal
 use Rattle.std.specs.Prelude.{Result, Ok, Err, IsErr}
 use Rattle.std.specs.Io.KnownBytes.{append_known}
 use Rattle.std.proofs.lemmas.Grind.{flat_map-append}
-use Rattle.tta_ports.specs.Faults.{Rose}
-use Rattle.tta_ports.specs.declared.error.Failed.{Failed}
+use Rattle.tta_debug.specs.Cited.{Rose, Failed, State, Output, IsPut, IsCut, IsQuiet}
 use Rattle.tta_print.proofs.Puts.{append_known-nil, append_known-twice}
-use Rattle.tta_code.specs.Cycle.{State}
 use Rattle.tta_debug.specs.Debugged.{Debugged, has, is_at_stop, Said, Went, texts, is_waiting, moved, puts, rests, saying, cycles}
 use Rattle.tta_debug.specs.Sessions.{Session', Follows, IsStopped, IsOver, IsMade, IsStuck, Runs}
-use Rattle.tta_ports.specs.Output.{Output, IsPut, IsCut, IsQuiet}
 
 -- the bytes of lines and of others
 pub texts_both : (xs ys : List Said) → texts (xs ++ ys) ≡ texts xs ++ texts ys

@@ -6,11 +6,8 @@ use Rattle.std.specs.Io.KnownBytes.{append_known}
 use Rattle.std.proofs.Math.Seq.{take-append-add}
 use Rattle.std.proofs.lemmas.Bool.{leb-true, leb-false}
 use Rattle.std.proofs.lemmas.List.{take-append-le}
-use Rattle.tta_ports.specs.Faults.{Rose}
-use Rattle.tta_print.specs.declared.reply.Reply.{Reply}
+use Rattle.tta_debug.specs.Cited.{Rose, Reply, Stands, reply_text, Output, IsPut}
 use Rattle.tta_print.specs.declared.reply.Reply.TheVariants as reply
-use Rattle.tta_sim.specs.Held.{Stands}
-use Rattle.tta_print.specs.Replies.{reply_text}
 use Rattle.tta_print.proofs.Puts.{append_known-nil, append_known-twice}
 use Rattle.tta_debug.specs.declared.told.Told.{Told}
 use Rattle.tta_debug.specs.declared.told.Told.TheVariants.{More, Bye}
@@ -18,7 +15,6 @@ use Rattle.tta_debug.specs.declared.told.CommandError.{CommandError}
 use Rattle.tta_debug.specs.declared.told.CommandError.TheVariants.{Refused, SinkFailed}
 use Rattle.tta_debug.specs.Debugged.{Debugged, Said, texts, say, stops_set}
 use Rattle.tta_debug.specs.Sessions.{Session', Follows, IsStopped, Does, Keeps, SaysLine}
-use Rattle.tta_ports.specs.Output.{Output, IsPut}
 use Rattle.tta_debug.proofs.Running.{put_both}
 
 -- whether an answer ends the session

@@ -4,14 +4,12 @@ use Rattle.std.specs.Prelude.{Result, Ok, Err, drop}
 use Rattle.std.specs.Io.KnownBytes.{append_known}
 use Rattle.std.proofs.Math.Seq.{take-append_seam}
 use Rattle.std.proofs.lemmas.List.{take-append-drop}
-use Rattle.tta_ports.specs.Faults.{Rose}
+use Rattle.tta_debug.specs.Cited.{Rose, reply_text, Output, IsPut, IsCut, IsQuiet}
 use Rattle.tta_print.specs.declared.reply.Reply.TheVariants as reply
-use Rattle.tta_print.specs.Replies.{reply_text}
 use Rattle.tta_debug.specs.declared.told.Told.TheVariants.{More, Bye}
 use Rattle.tta_debug.specs.declared.told.CommandError.TheVariants.{Refused, SinkFailed}
 use Rattle.tta_debug.specs.Debugged.{Debugged, Done, texts}
 use Rattle.tta_debug.specs.Sessions.{Session', Follows, IsStopped, Does}
-use Rattle.tta_ports.specs.Output.{Output, IsPut, IsCut, IsQuiet}
 use Rattle.tta_debug.specs.Scripts.{line_text, line_says, TakesLine}
 use Rattle.tta_debug.proofs.Running.{texts_both}
 

@@ -5,11 +5,9 @@ use Rattle.std.proofs.lemmas.Option.{slice_get_read}
 use Rattle.std.proofs.lemmas.List.Quantifiers.{position-Some}
 use Rattle.std.specs.List.{position}
 use Rattle.std.specs.Str.{bytes_eq}
-use Rattle.tta_arch.specs.declared.parts.File.{File}
+use Rattle.tta_debug.specs.Cited.{File, Machine, KeptReg, kept, State}
 use Rattle.tta_arch.specs.declared.parts.Unit.{Unit as OpUnit}
-use Rattle.tta_arch.specs.Machine.{Machine}
-use Rattle.tta_arch.specs.Effects.{KeptReg, kept}
-use Rattle.tta_code.specs.Cycle.{State, port as port_of}
+use Rattle.tta_code.specs.Cycle.{port as port_of}
 use Rattle.tta_debug.specs.Debugged.{register, register_at, shown, shown_at, value}
 
 -- a register of a file at a known place

@@ -1,7 +1,6 @@
 -- Cycles of a stretch are cycles of the run.
 use Rattle.std.proofs.Common.{◌≡◌, ◌≤◌, ℕ, zero, suc, Bool, true, false, if◌then◌else◌, not, refl, ap, ◌∙◌, arith}
-use Rattle.tta_list.specs.Iterate.{iterate}
-use Rattle.tta_code.specs.Cycle.{State}
+use Rattle.tta_debug.specs.Cited.{iterate, State}
 use Rattle.tta_debug.specs.Debugged.{Debugged, Went, is_running, is_waiting, moved, puts, rests, saying, cycles}
 use Rattle.tta_debug.specs.Laws.{IsStretch}
 

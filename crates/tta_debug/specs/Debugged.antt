@@ -3,17 +3,10 @@ use Rattle.std.specs.Prelude.{ℕ, zero, suc, ◌+◌, ◌==◌, Bool, true, fal
 use Rattle.std.specs.Option.{option_map_or}
 use Rattle.std.specs.List.{flat_map, list_any, position}
 use Rattle.std.specs.Str.{bytes_eq}
-use Rattle.tta_print.specs.declared.reply.Reply.{Reply}
+use Rattle.tta_debug.specs.Cited.{Reply, reply_text, due_text, Units, File, Machine, KeptReg, kept, Code, State, Outcome, Running, Halted, Waiting, Fault, next, due_at}
 use Rattle.tta_print.specs.declared.reply.Reply.TheVariants as reply
-use Rattle.tta_print.specs.Replies.{reply_text, due_text}
-use Rattle.tta_ops.specs.Units.{Units}
-use Rattle.tta_arch.specs.declared.parts.File.{File}
 use Rattle.tta_arch.specs.declared.parts.Unit.{Unit as OpUnit}
-use Rattle.tta_arch.specs.Machine.{Machine}
-use Rattle.tta_arch.specs.Effects.{KeptReg, kept}
-use Rattle.tta_code.specs.declared.code.Code.{Code}
-use Rattle.tta_code.specs.Cycle.{State, Outcome, Running, Halted, Waiting, Fault, port as port_of, next}
-use Rattle.tta_sim.specs.Results.{due_at}
+use Rattle.tta_code.specs.Cycle.{port as port_of}
 use Rattle.tta_debug.specs.Words.{words_of}
 use Rattle.tta_debug.specs.Commands.{Query, Reg, Port, Mem, Where, Command, Nothing, Break, Delete, Step, Go, Flight, Ask, Quit, asked_by}
 

@@ -1,15 +1,10 @@
 -- What a line of a script does, and what a script does.
 use Rattle.std.specs.Prelude.{◌≡◌, ◌==◌, ℕ, Bool, true, not, if◌then◌else◌, List, [], ◌∷◌, ◌++◌, Result, Ok, Err}
 use Rattle.std.specs.List.{prefix_len}
-use Rattle.tta_ports.specs.declared.error.Failed.{Failed}
+use Rattle.tta_debug.specs.Cited.{Failed, reply_text, Units, Machine, Code, Output, IsPut, IsCut}
 use Rattle.tta_print.specs.declared.reply.Reply.TheVariants as reply
-use Rattle.tta_print.specs.Replies.{reply_text}
-use Rattle.tta_ops.specs.Units.{Units}
-use Rattle.tta_arch.specs.Machine.{Machine}
-use Rattle.tta_code.specs.declared.code.Code.{Code}
 use Rattle.tta_debug.specs.Debugged.{Debugged, Said, Done, texts, say, command}
 use Rattle.tta_debug.specs.Sessions.{Session', Follows}
-use Rattle.tta_ports.specs.Output.{Output, IsPut, IsCut}
 
 -- what is put for a line, by what comes of it
 abbrev pub line_text : Result Done ℕ → List ℕ

@@ -1,13 +1,8 @@
 -- What a session holds, what it stands for, and what a command does to it and to the output.
 use Rattle.std.specs.Prelude.{◌≡◌, ℕ, suc, Bool, true, false, List, [], ◌∷◌, ◌++◌, take, drop, Option, None, Some, Result, Ok, Err}
 use Rattle.std.specs.Io.KnownBytes.{append_known}
-use Rattle.tta_ports.specs.Faults.{Rose}
-use Rattle.tta_ports.specs.Output.{Output, IsPut, IsCut, IsQuiet}
-use Rattle.tta_ports.specs.declared.error.Failed.{Failed}
+use Rattle.tta_debug.specs.Cited.{Rose, Output, IsPut, IsCut, IsQuiet, Failed, reply_text, State, Held, Stands}
 use Rattle.tta_print.specs.declared.reply.Reply.TheVariants as reply
-use Rattle.tta_print.specs.Replies.{reply_text}
-use Rattle.tta_code.specs.Cycle.{State}
-use Rattle.tta_sim.specs.Held.{Held, Stands}
 use Rattle.tta_debug.specs.declared.told.Told.{Told}
 use Rattle.tta_debug.specs.declared.told.Told.TheVariants.{More, Bye}
 use Rattle.tta_debug.specs.declared.told.CommandError.{CommandError}

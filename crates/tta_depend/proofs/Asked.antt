@@ -1,12 +1,7 @@
 -- The least cycle of an item by what is known of each spot.
 use Rattle.std.proofs.Common.{◌≡◌, ℕ, ◌+◌, ◌-◌, Bool, true, false, List, [], ◌∷◌, ◌++◌, Some, None, refl, sym, ap, ◌∙◌, arith}
 use Rattle.std.specs.Prelude.{max, if◌then◌else◌}
-use Rattle.tta_arch.specs.Machine.{Machine}
-use Rattle.tta_arch.specs.Effects.{or_else}
-use Rattle.tta_moves.specs.declared.items.Item.{Item}
-use Rattle.tta_moves.specs.declared.items.PlacedItem.{PlacedItem}
-use Rattle.tta_moves.specs.Touches.{is_control}
-use Rattle.tta_moves.specs.Bounds.{Spot, same_spot, Touch, reads_by, writes_by, from_moment, behind, lasts, over_before, least, last_end, control_cycle}
+use Rattle.tta_depend.specs.Cited.{Machine, or_else, Item, PlacedItem, is_control, Spot, same_spot, Touch, reads_by, writes_by, from_moment, behind, lasts, over_before, least, last_end, control_cycle}
 use Rattle.tta_depend.specs.Stands.{latest, shown_by, free_by, end_of}
 
 -- ---- bounds by spots

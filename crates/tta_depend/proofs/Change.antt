@@ -7,7 +7,7 @@ use Rattle.std.proofs.lemmas.Bool.Decides.{nat_tests}
 use Rattle.std.proofs.lemmas.List.{get_or-set_other}
 use Rattle.std.proofs.lemmas.Grind.{get_or-set_at}
 use Rattle.tta_list.proofs.Lists.{list_all_changed, list_all_weaker}
-use Rattle.tta_moves.specs.Bounds.{Spot, same_spot, Touch}
+use Rattle.tta_depend.specs.Cited.{Spot, same_spot, Touch}
 use Rattle.tta_depend.specs.declared.touches.Touched.{Touched}
 use Rattle.tta_depend.specs.declared.rows.Row.{Row}
 use Rattle.tta_depend.specs.Touched.{spot_number, touched}

@@ -2,11 +2,7 @@
 use Rattle.std.proofs.Common.{◌≡◌, ℕ, ◌+◌, ◌-◌, Bool, true, false, List, [], ◌∷◌, ◌++◌, Some, None, refl, sym, ap, ◌∙◌, arith, map}
 use Rattle.std.specs.Prelude.{max, ◌==◌, if◌then◌else◌}
 use Rattle.std.specs.Option.{option_map_or}
-use Rattle.tta_arch.specs.Machine.{Machine}
-use Rattle.tta_moves.specs.declared.items.Item.{Item}
-use Rattle.tta_moves.specs.declared.items.PlacedItem.{PlacedItem}
-use Rattle.tta_moves.specs.Touches.{is_control}
-use Rattle.tta_moves.specs.Bounds.{Spot, same_spot, Touch, reads_by, writes_by, lasts, least, last_end, length_of}
+use Rattle.tta_depend.specs.Cited.{Machine, Item, PlacedItem, is_control, Spot, same_spot, Touch, reads_by, writes_by, lasts, least, last_end, length_of}
 use Rattle.tta_depend.specs.declared.touches.Touched.{Touched}
 use Rattle.tta_depend.specs.declared.rows.Row.{Row}
 use Rattle.tta_depend.specs.Touched.{spot_number, touched}

@@ -4,11 +4,7 @@ use Rattle.std.specs.Prelude.{◌==◌, nat_lt}
 use Rattle.std.specs.List.{list_all}
 use Rattle.std.proofs.lemmas.Bool.{and_parts}
 use Rattle.std.proofs.lemmas.Bool.Decides.{nat_tests}
-use Rattle.tta_arch.specs.Machine.{Machine}
-use Rattle.tta_arch.specs.Effects.{same_place}
-use Rattle.tta_moves.specs.declared.items.Item.{Item}
-use Rattle.tta_moves.specs.Numbers.{place_number}
-use Rattle.tta_moves.specs.Bounds.{Spot, At, Started, same_spot, Touch, reads_by, writes_by}
+use Rattle.tta_depend.specs.Cited.{Machine, same_place, Item, place_number, Spot, At, Started, same_spot, Touch, reads_by, writes_by}
 use Rattle.tta_moves.proofs.InRange.{one_place, number_below}
 use Rattle.tta_depend.specs.declared.touches.Touched.{Touched}
 use Rattle.tta_depend.specs.Touched.{spot_number, touched, spot_below}

@@ -1,3 +1,4 @@
+pub mod Cited
 pub mod Touched
 pub mod Rows
 pub mod Stands

@@ -2,11 +2,7 @@
 use Rattle.std.specs.Prelude.{◌≡◌, ℕ, ◌+◌, ◌≤◌, Bool, true, nat_lt, max, if◌then◌else◌, List, [], ◌∷◌, ◌++◌, Option}
 use Rattle.std.specs.Option.{option_map_or}
 use Rattle.std.specs.List.{list_all}
-use Rattle.tta_arch.specs.Machine.{Machine}
-use Rattle.tta_moves.specs.declared.items.Item.{Item}
-use Rattle.tta_moves.specs.declared.items.PlacedItem.{PlacedItem}
-use Rattle.tta_moves.specs.Numbers.{is_place}
-use Rattle.tta_moves.specs.Bounds.{Spot, At, Started, same_spot, Touch, reads_by, writes_by, lasts, control_cycle}
+use Rattle.tta_depend.specs.Cited.{Machine, Item, PlacedItem, is_place, Spot, At, Started, same_spot, Touch, reads_by, writes_by, lasts, control_cycle}
 use Rattle.tta_depend.specs.declared.rows.Row.{Row}
 use Rattle.tta_depend.specs.Touched.{spot_number}
 use Rattle.tta_depend.specs.Rows.{row_at, AreRows}

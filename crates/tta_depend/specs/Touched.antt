@@ -1,7 +1,6 @@
 -- What an item touches, by the numbers of the spots.
 use Rattle.std.specs.Prelude.{ℕ, ◌+◌, Bool, nat_lt}
-use Rattle.tta_moves.specs.Numbers.{place_number}
-use Rattle.tta_moves.specs.Bounds.{Spot, At, Started, Touch}
+use Rattle.tta_depend.specs.Cited.{place_number, Spot, At, Started, Touch}
 use Rattle.tta_depend.specs.declared.touches.Touched.{Touched}
 
 -- a number for each spot: those of the places, and then one for each unit's trigger port

@@ -1,7 +1,6 @@
 -- What was read suits a circuit.
 use Rattle.std.proofs.Common.{List, ℕ}
-use Rattle.tta_ops.specs.Units.{Units}
-use Rattle.tta_given.specs.declared.machine.MachineFile.{MachineFile}
+use Rattle.tta_designer.specs.Cited.{Units, MachineFile}
 use Rattle.tta_designer.specs.declared.subject.Subject.{Subject}
 use Rattle.tta_designer.specs.declared.subject.Subject.TheVariants.{Code, Program}
 use Rattle.tta_designer.specs.Subjects as subjects

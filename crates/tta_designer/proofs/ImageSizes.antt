@@ -3,15 +3,9 @@ use Rattle.std.proofs.Common.{◌≡◌, ℕ, ◌+◌, ◌*◌, ◌/◌, nat_lt,
 use Rattle.std.specs.List.{flat_map}
 use Rattle.std.proofs.lemmas.Bool.{lt-ltb}
 use Rattle.std.proofs.lemmas.List.{length-append, length-replicate}
-use Rattle.tta_arch.specs.Machine.{Machine}
-use Rattle.tta_arch.specs.Fields.{word_width}
-use Rattle.tta_code.specs.declared.whole.Datum.{Datum}
-use Rattle.tta_code.specs.Whole.{Whole}
-use Rattle.tta_image.specs.Bits.{instruction_bits}
-use Rattle.tta_image.specs.Image.{Image, data_section}
+use Rattle.tta_designer.specs.Cited.{Machine, word_width, Datum, Whole, instruction_bits, Image, data_section, data_bytes, image_bytes}
 use Rattle.tta_image.proofs.Unique.{length-bytes}
 use Rattle.tta_image.proofs.ImageDecoded.{length-words_bits}
-use Rattle.tta_info.specs.ImageInfo.{data_bytes, image_bytes}
 use Rattle.tta_image.proofs.PairsDecoded.{length-pairs as length-data}
 
 -- how many bytes data take

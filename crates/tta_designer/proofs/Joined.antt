@@ -1,17 +1,8 @@
 -- Cores of files, and what is put of their circuits.
 use Rattle.std.proofs.Common.{◌≡◌, ℕ, suc, List, [], ◌∷◌, length, Option, Some, refl, subst, inr}
 use Rattle.std.specs.Prelude.{slice_get}
-use Rattle.tta_ports.specs.World.{World}
-use Rattle.tta_ports.specs.Output.{Output}
+use Rattle.tta_designer.specs.Cited.{World, Output, Units, Core, CanLoad, Status, IsTaken, no_memory, TextEnds, AreLinks, cores_in, TakesCores, AreSound}
 use Rattle.tta_ports.proofs.Worlds.{same_world}
-use Rattle.tta_ops.specs.Units.{Units}
-use Rattle.tta_cores.specs.declared.cores.Core.{Core}
-use Rattle.tta_net.specs.Loaded.{CanLoad}
-use Rattle.tta_given.specs.declared.status.Status.{Status}
-use Rattle.tta_given.specs.Held.{IsTaken, no_memory}
-use Rattle.tta_given.specs.Ends.{TextEnds}
-use Rattle.tta_network.specs.CoreFiles.{AreLinks, cores_in, TakesCores}
-use Rattle.tta_netlist.specs.Net.{AreSound}
 use Rattle.tta_designer.specs.Depths.{depths_in}
 use Rattle.tta_designer.specs.Joining.{IsNetText, ShowsCores, ShowsNet}
 

@@ -1,12 +1,8 @@
 -- Statuses with which nothing that is run lacks, or is refused.
 use Rattle.std.proofs.Common.{◌≡◌, ℕ, List, inl, inr}
-use Rattle.tta_ops.specs.Units.{Units}
+use Rattle.tta_designer.specs.Cited.{Units, MachineFile, Status, RefusesImage, RefusesProgramFor}
 use Rattle.tta_program.specs.Program.{Program}
-use Rattle.tta_given.specs.declared.machine.MachineFile.{MachineFile}
-use Rattle.tta_given.specs.declared.status.Status.{Status}
 use Rattle.tta_given.specs.declared.status.Status.TheVariants as status
-use Rattle.tta_given.specs.Images.{RefusesImage}
-use Rattle.tta_given.specs.Programs.{RefusesProgramFor}
 use Rattle.tta_designer.specs.Stages.{IsCauseOf}
 use Rattle.tta_designer.specs.declared.subject.Subject.{Subject}
 use Rattle.tta_designer.specs.declared.subject.Subject.TheVariants.{Code as OfCode, Program as OfProgram}

@@ -1,8 +1,7 @@
 -- What is loaded has made no cycle.
 use Rattle.std.proofs.Common.{◌≡◌, ◌<◌, ◌^◌, ℕ, ◌+◌, List, [], arith}
-use Rattle.tta_arch.specs.Machine.{Machine}
-use Rattle.tta_code.specs.Cycle.{start}
-use Rattle.tta_sim.specs.Held.{Held, Stands}
+use Rattle.tta_designer.specs.Cited.{Machine, start, Stands}
+use Rattle.tta_sim.specs.Held.{Held}
 
 -- code that was loaded has made no cycle, so the cycles before those that are shown, and a bound, leave room
 pub few_cycles : (h : Held) (m : Machine) (memory : List ℕ) (first bound : ℕ) → Stands h (start m memory []) → first < 2 ^ 48 → bound < 2 ^ 48

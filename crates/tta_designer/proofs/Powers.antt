@@ -4,7 +4,7 @@ use Rattle.std.specs.Prelude.{◌==◌, is_some, option_and_then}
 use Rattle.std.specs.List.{AllByRecursion}
 use Rattle.std.specs.Option.{option_map_or}
 use Rattle.std.proofs.lemmas.List.{length-replicate}
-use Rattle.tta_text.specs.Numbers.{digits_of}
+use Rattle.tta_designer.specs.Cited.{digits_of}
 use Rattle.tta_designer.specs.Depths.{exponent_from, depth_of, comma_at, is_list, depth_or_zero, list_in, depths_in}
 
 -- ---- one step more

@@ -1,24 +1,8 @@
 -- What a session at a prompt is over, and what the clause of the command says at a status.
 use Rattle.std.proofs.Common.{◌≡◌, ◌<◌, ◌^◌, ℕ, List, [], Option, Some, None, sym, subst, inl, inr, arith}
-use Rattle.tta_ports.specs.World.{World, IsUntouched}
-use Rattle.tta_ports.specs.Output.{Output}
+use Rattle.tta_designer.specs.Cited.{World, IsUntouched, Output, Come, Units, Machine, Whole, start, Stands, Session', MachineFile, Status, HasText, IsTaken, ReadFails, HasMachine, RefusesMachine, IsImageFor, RefusesImage, Fills, RefusesInput, RefusesStream, HasPair, ReadsPair, HasGiven, HasThree, OfNamed}
 use Rattle.tta_ports.proofs.Worlds.{same_world}
-use Rattle.tta_lines.specs.Come.{Come}
-use Rattle.tta_ops.specs.Units.{Units}
-use Rattle.tta_arch.specs.Machine.{Machine}
-use Rattle.tta_code.specs.Whole.{Whole}
-use Rattle.tta_code.specs.Cycle.{start}
-use Rattle.tta_sim.specs.Held.{Held, Stands}
-use Rattle.tta_debug.specs.Sessions.{Session'}
-use Rattle.tta_given.specs.declared.machine.MachineFile.{MachineFile}
-use Rattle.tta_given.specs.declared.status.Status.{Status}
-use Rattle.tta_given.specs.Held.{HasText, IsTaken, ReadFails}
-use Rattle.tta_given.specs.Machines.{HasMachine, RefusesMachine}
-use Rattle.tta_given.specs.Images.{IsImageFor, RefusesImage}
-use Rattle.tta_given.specs.Inputs.{Fills, RefusesInput, RefusesStream}
-use Rattle.tta_given.specs.Pairs.{HasPair, ReadsPair}
-use Rattle.tta_given.specs.Runs.{HasGiven}
-use Rattle.tta_given.specs.Endings.{HasThree, OfNamed}
+use Rattle.tta_sim.specs.Held.{Held}
 use Rattle.tta_given.proofs.Endings.{pair_held}
 use Rattle.tta_given.proofs.Stages.{pair_stages, pair_at}
 use Rattle.tta_designer.specs.Prompts.{StreamFails, GivenFails, ReadsStream, ReadsGiven, ReadsFiles, FilesFail, IsIdle, SessionEnds, OpensPrompt, PromptFault}

@@ -1,22 +1,9 @@
 -- What `rtl` does, and why it does not.
 use Rattle.std.specs.Prelude.{◌≡◌, ◌↔◌, ℕ, List, None}
-use Rattle.tta_ports.specs.World.{World, IsUntouched}
-use Rattle.tta_ports.specs.Output.{Output, IsQuiet, IsPut, IsCut}
-use Rattle.tta_ops.specs.Units.{Units}
-use Rattle.tta_arch.specs.Machine.{Machine}
+use Rattle.tta_designer.specs.Cited.{World, IsUntouched, Output, IsQuiet, IsPut, IsCut, Units, Machine, first_outside, Whole, IsLegalWhole, IsBuilt, rtl_of, MachineFile, Status, HasText, ReadFailed, IsTooLong, IsBadMachine, Puts, OfPair, PairFault}
 use Rattle.tta_program.specs.Over as programs
-use Rattle.tta_program.specs.Program.{Program as Source, first_outside}
-use Rattle.tta_code.specs.Whole.{Whole}
-use Rattle.tta_code.specs.Legal.{IsLegalWhole}
-use Rattle.tta_build.specs.Statement.{IsBuilt}
-use Rattle.tta_rtl.specs.Module.{rtl_of}
-use Rattle.tta_given.specs.declared.machine.MachineFile.{MachineFile}
-use Rattle.tta_given.specs.declared.status.Status.{Status}
+use Rattle.tta_program.specs.Program.{Program as Source}
 use Rattle.tta_given.specs.declared.status.Status.TheVariants as status
-use Rattle.tta_given.specs.Held.{HasText, ReadFailed, IsTooLong}
-use Rattle.tta_given.specs.Machines.{IsBadMachine}
-use Rattle.tta_given.specs.Ends.{Puts}
-use Rattle.tta_given.specs.Endings.{OfPair, PairFault}
 use Rattle.tta_designer.specs.declared.subject.Subject.{Subject}
 use Rattle.tta_designer.specs.declared.subject.Subject.TheVariants.{Code, Program}
 use Rattle.tta_designer.specs.Subjects.{IsSubject, RefusesSubject}

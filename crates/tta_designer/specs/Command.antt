@@ -1,19 +1,7 @@
 -- How a command ends.
 use Rattle.std.specs.Prelude.{◌≡◌, ◌⊎◌, ◌↔◌, List, ℕ, Option, Some, None, Err}
-use Rattle.tta_ports.specs.World.{World, IsUntouched}
-use Rattle.tta_ports.specs.Output.{Output, IsQuiet, IsPut, IsCut}
-use Rattle.tta_lines.specs.Come.{Come}
-use Rattle.tta_ops.specs.Units.{Units}
-use Rattle.tta_code.specs.Whole.{Whole}
-use Rattle.tta_image.specs.declared.refusal.ImageError.TheVariants.{Refused}
-use Rattle.tta_image.specs.Reading.{decoded_image}
-use Rattle.tta_given.specs.declared.machine.MachineFile.{MachineFile}
-use Rattle.tta_given.specs.declared.status.Status.{Status}
+use Rattle.tta_designer.specs.Cited.{World, IsUntouched, Output, IsQuiet, IsPut, IsCut, Come, Units, Whole, Refused, decoded_image, MachineFile, Status, HasText, ReadFailed, IsTooLong, no_memory, IsBadMachine, HasMachine, MachineFails, IsImageFor, RefusesImage, IsUsage, TextEnds, Puts}
 use Rattle.tta_given.specs.declared.status.Status.TheVariants as status
-use Rattle.tta_given.specs.Held.{HasText, ReadFailed, IsTooLong, no_memory}
-use Rattle.tta_given.specs.Machines.{IsBadMachine, HasMachine, MachineFails}
-use Rattle.tta_given.specs.Images.{IsImageFor, RefusesImage}
-use Rattle.tta_given.specs.Ends.{IsUsage, TextEnds, Puts}
 use Rattle.tta_given.specs.Endings as endings
 use Rattle.tta_designer.specs.declared.view.View.{View}
 use Rattle.tta_designer.specs.Views.{machine_view, told_of}

@@ -2,7 +2,7 @@
 use Rattle.std.specs.Prelude.{ℕ, zero, suc, ◌+◌, ◌^◌, ◌==◌, Bool, false, ◌&&◌, ◌||◌, if◌then◌else◌, List, [], ◌∷◌, length, take, drop, replicate, Option, Some, None, is_some, option_and_then}
 use Rattle.std.specs.Option.{option_map_or}
 use Rattle.std.specs.List.{position_or_len}
-use Rattle.tta_text.specs.Numbers.{digits_of}
+use Rattle.tta_designer.specs.Cited.{digits_of}
 
 -- the first of so many exponents, from one on, of which a number is the power of two
 abbrev pub exponent_from : (k left n : ℕ) → Option ℕ

@@ -1,14 +1,7 @@
 -- What `rtl net` does, and why it does not.
 use Rattle.std.specs.Prelude.{◌≡◌, ◌⊎◌, ℕ, List, length, Option}
-use Rattle.tta_ports.specs.World.{World, IsUntouched}
-use Rattle.tta_ports.specs.Output.{Output, IsQuiet}
-use Rattle.tta_ops.specs.Units.{Units}
-use Rattle.tta_cores.specs.declared.cores.Core.{Core}
-use Rattle.tta_given.specs.declared.status.Status.{Status}
-use Rattle.tta_given.specs.Held.{Held, FileFails, no_memory}
-use Rattle.tta_given.specs.Ends.{TextEnds}
-use Rattle.tta_network.specs.CoreFiles.{AreLinks, RefusesLinks, cores_in, HasCores, CoresFail}
-use Rattle.tta_netlist.specs.Net.{net_text}
+use Rattle.tta_designer.specs.Cited.{World, IsUntouched, Output, IsQuiet, Units, Core, Status, FileFails, no_memory, TextEnds, AreLinks, RefusesLinks, cores_in, HasCores, CoresFail, net_text}
+use Rattle.tta_given.specs.Held.{Held}
 use Rattle.tta_designer.specs.Depths.{depths_in}
 
 -- a text is that of the circuits of cores that are joined by queues, whose data spaces begin with these words

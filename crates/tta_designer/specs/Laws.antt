@@ -1,10 +1,6 @@
 -- What holds of what is told.
 use Rattle.std.specs.Prelude.{◌≡◌, ℕ, List, length}
-use Rattle.tta_arch.specs.Machine.{Machine}
-use Rattle.tta_arch.specs.Fields.{word_width}
-use Rattle.tta_code.specs.Whole.{Whole}
-use Rattle.tta_image.specs.Image.{Image}
-use Rattle.tta_info.specs.ImageInfo.{image_bytes}
+use Rattle.tta_designer.specs.Cited.{Machine, word_width, Whole, Image, image_bytes}
 
 -- the number of bytes that is told of an image is that of its bytes
 abbrev pub ImageSize : Type 0

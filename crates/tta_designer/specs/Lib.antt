@@ -1,3 +1,4 @@
+pub mod Cited
 pub mod Spans
 pub mod Request
 pub mod Views

@@ -1,20 +1,8 @@
 -- What `picture M F` does, and why it does not.
 use Rattle.std.specs.Prelude.{◌≡◌, ◌↔◌, ℕ, List, []}
-use Rattle.tta_ports.specs.World.{World, IsUntouched}
-use Rattle.tta_ports.specs.Output.{Output, IsQuiet, IsPut, IsCut}
-use Rattle.tta_ops.specs.Units.{Units}
+use Rattle.tta_designer.specs.Cited.{World, IsUntouched, Output, IsQuiet, IsPut, IsCut, Units, Whole, Stages, AreStages, picture_of_code, MachineFile, Status, HasText, ReadFailed, IsTooLong, IsBadMachine, Puts, OfPair, PairFault}
 use Rattle.tta_program.specs.Program.{Program as Source}
-use Rattle.tta_code.specs.Whole.{Whole}
-use Rattle.tta_stages.specs.declared.stages.Stages.{Stages}
-use Rattle.tta_stages.specs.Stages.{AreStages}
-use Rattle.tta_draw.specs.CodePicture.{picture_of_code}
-use Rattle.tta_given.specs.declared.machine.MachineFile.{MachineFile}
-use Rattle.tta_given.specs.declared.status.Status.{Status}
 use Rattle.tta_given.specs.declared.status.Status.TheVariants as status
-use Rattle.tta_given.specs.Held.{HasText, ReadFailed, IsTooLong}
-use Rattle.tta_given.specs.Machines.{IsBadMachine}
-use Rattle.tta_given.specs.Ends.{Puts}
-use Rattle.tta_given.specs.Endings.{OfPair, PairFault}
 use Rattle.tta_designer.specs.declared.subject.Subject.{Subject}
 use Rattle.tta_designer.specs.declared.subject.Subject.TheVariants.{Code, Program}
 use Rattle.tta_designer.specs.Subjects.{IsSubject, RefusesSubject}

@@ -1,33 +1,9 @@
 -- What `prompt` does, and why it does not.
 use Rattle.std.specs.Prelude.{◌≡◌, ◌⊎◌, ◌↔◌, ℕ, List, [], Option, None, Some, Result, Ok, Err}
-use Rattle.tta_input.specs.Input.{input_of, stream_of}
-use Rattle.tta_list.specs.Laid.{over}
-use Rattle.tta_ports.specs.Store.{Store}
-use Rattle.tta_ports.specs.World.{World, IsUntouched}
-use Rattle.tta_ports.specs.Output.{Output, IsQuiet}
-use Rattle.tta_lines.specs.Come.{Come}
-use Rattle.tta_ops.specs.Units.{Units}
-use Rattle.tta_arch.specs.Machine.{Machine}
+use Rattle.tta_designer.specs.Cited.{input_of, stream_of, over, Store, World, IsUntouched, Output, IsQuiet, Come, Units, Machine, Whole, data_in, start, Refused, decoded_image, Debugged, Session', PromptError, LinesFailed, TooLong, NoMemory, SinkFailed, Prompts, MachineFile, Status, IsHeld, HasText, ReadFailed, IsTooLong, FileFails, IsBadMachine, IsImageFor, RefusesImage, Fills, RefusesInput, HasInput, IsStream, RefusesStream, HasPair, PairFails, ReadsPair, HasGiven, OfPair, PairFault, HasThree, OfNamed}
 use Rattle.tta_code.specs.declared.code.Code.{Code}
-use Rattle.tta_code.specs.Whole.{Whole, data_in}
-use Rattle.tta_code.specs.Cycle.{start}
-use Rattle.tta_image.specs.declared.refusal.ImageError.TheVariants.{Refused}
-use Rattle.tta_image.specs.Reading.{decoded_image}
-use Rattle.tta_debug.specs.Debugged.{Debugged}
-use Rattle.tta_debug.specs.Sessions.{Session'}
-use Rattle.tta_prompt.specs.declared.error.PromptError.{PromptError}
-use Rattle.tta_prompt.specs.declared.error.PromptError.TheVariants.{LinesFailed, TooLong, NoMemory, SinkFailed}
-use Rattle.tta_prompt.specs.Endings.{Prompts}
-use Rattle.tta_given.specs.declared.machine.MachineFile.{MachineFile}
-use Rattle.tta_given.specs.declared.status.Status.{Status}
 use Rattle.tta_given.specs.declared.status.Status.TheVariants as status
-use Rattle.tta_given.specs.Held.{IsHeld, HasText, ReadFailed, IsTooLong, FileFails}
-use Rattle.tta_given.specs.Machines.{IsBadMachine}
-use Rattle.tta_given.specs.Images.{IsImageFor, RefusesImage}
-use Rattle.tta_given.specs.Inputs.{Fills, RefusesInput, HasInput, IsStream, RefusesStream}
-use Rattle.tta_given.specs.Pairs.{HasPair, PairFails, ReadsPair}
-use Rattle.tta_given.specs.Runs.{HasGiven}
-use Rattle.tta_given.specs.Endings.{OfMachine, OfPair, PairFault, HasThree, OfNamed}
+use Rattle.tta_given.specs.Endings.{OfMachine}
 
 -- ---- what was read
 

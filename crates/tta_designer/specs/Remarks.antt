@@ -3,12 +3,7 @@ use Rattle.std.specs.Prelude.{ℕ, ◌==◌, if◌then◌else◌, List, [], ◌�
 use Rattle.std.specs.Option.{option_map_or}
 use Rattle.std.specs.List.{flat_map, enumerate_from}
 use Rattle.tta_program.specs.Program.{Program}
-use Rattle.tta_lower.specs.declared.part.Part.{Part}
-use Rattle.tta_moves.specs.declared.items.Placed.{Placed}
-use Rattle.tta_link.specs.Linked.{starts_from}
-use Rattle.tta_draw.specs.declared.remark.Remark.{Remark}
-use Rattle.tta_stages.specs.declared.stages.Stages.{Stages}
-use Rattle.tta_stages.specs.RegisterText.{named_text}
+use Rattle.tta_designer.specs.Cited.{Part, Placed, starts_from, Remark, Stages, named_text}
 
 -- the remark on a row in which the block of a number begins: its name, and what it stands for
 abbrev pub remark_at : Program → List Part → (row k : ℕ) → Remark

@@ -2,9 +2,7 @@
 use Rattle.std.specs.Prelude.{ℕ, List, [], ◌∷◌, length, map, Bool, false, ◌&&◌, ◌||◌, Option, Some, None, codes, if◌then◌else◌, is_some, option_map, option_and_then}
 use Rattle.std.specs.Str.{bytes_eq}
 use Rattle.std.specs.String.{string_bytes}
-use Rattle.tta_given.specs.Runs.{bound_of}
-use Rattle.tta_network.specs.CoreFiles.{cores_in}
-use Rattle.tta_network.specs.Request.{is_net}
+use Rattle.tta_designer.specs.Cited.{bound_of, cores_in, is_net}
 use Rattle.tta_designer.specs.Depths.{are_depths}
 use Rattle.tta_designer.specs.declared.view.View.{View}
 use Rattle.tta_designer.specs.declared.view.View.TheVariants.{Picture, Info}

@@ -1,31 +1,10 @@
 -- What `profile`, `play` and `waves` do, and why they do not.
 use Rattle.std.specs.Prelude.{◌≡◌, ◌↔◌, ℕ, List, [], Option, Err}
-use Rattle.tta_input.specs.Input.{input_of, stream_of}
-use Rattle.tta_list.specs.Laid.{over}
-use Rattle.tta_ports.specs.Store.{Store}
-use Rattle.tta_ports.specs.World.{World, IsUntouched}
-use Rattle.tta_ports.specs.Output.{Output, IsQuiet, IsPut, IsCut}
-use Rattle.tta_ops.specs.Units.{Units}
-use Rattle.tta_arch.specs.Machine.{Machine}
+use Rattle.tta_designer.specs.Cited.{input_of, stream_of, over, Store, World, IsUntouched, Output, IsQuiet, IsPut, IsCut, Units, Machine, Whole, data_in, State, start, data_of, Stages, AreStages, stages_text, IsProfile, IsBlockProfile, page_after, page_of, waves_of, MachineFile, Status, HasText, ReadFailed, IsTooLong, no_memory, IsBadMachine, TextEnds, PairRuns, OfPair, HasThree, OfNamed, RunFault}
 use Rattle.tta_code.specs.declared.code.Code.{Code}
-use Rattle.tta_code.specs.Whole.{Whole, data_in}
-use Rattle.tta_code.specs.Cycle.{State, start}
-use Rattle.tta_program.specs.Program.{Program, data_of}
-use Rattle.tta_stages.specs.declared.stages.Stages.{Stages}
-use Rattle.tta_stages.specs.Stages.{AreStages}
-use Rattle.tta_stages.specs.Text.{stages_text}
-use Rattle.tta_profile.specs.Statement.{IsProfile}
-use Rattle.tta_blocks.specs.Statement.{IsBlockProfile}
-use Rattle.tta_play.specs.Statement.{page_after, page_of}
-use Rattle.tta_waves.specs.Statement.{waves_of}
-use Rattle.tta_given.specs.declared.machine.MachineFile.{MachineFile}
-use Rattle.tta_given.specs.declared.status.Status.{Status}
+use Rattle.tta_program.specs.Program.{Program}
 use Rattle.tta_given.specs.declared.status.Status.TheVariants as status
-use Rattle.tta_given.specs.Held.{HasText, ReadFailed, IsTooLong, no_memory}
-use Rattle.tta_given.specs.Machines.{IsBadMachine}
-use Rattle.tta_given.specs.Ends.{TextEnds}
-use Rattle.tta_given.specs.Runs.{PairRuns}
-use Rattle.tta_given.specs.Endings.{OfMachine, OfPair, HasThree, OfRun, OfNamed, RunFault}
+use Rattle.tta_given.specs.Endings.{OfMachine, OfRun}
 use Rattle.tta_designer.specs.declared.subject.Subject.{Subject}
 use Rattle.tta_designer.specs.declared.subject.Subject.TheVariants.{Code as OfCode, Program as OfProgram}
 use Rattle.tta_designer.specs.Subjects.{IsSubject, RefusesSubject}

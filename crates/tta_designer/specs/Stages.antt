@@ -1,24 +1,10 @@
 -- What `stages` does, and why it does not.
 use Rattle.std.specs.Prelude.{◌≡◌, ◌↔◌, ℕ, List}
-use Rattle.tta_ports.specs.World.{World, IsUntouched}
-use Rattle.tta_ports.specs.Output.{Output, IsQuiet, IsPut, IsCut}
-use Rattle.tta_ops.specs.Units.{Units}
-use Rattle.tta_arch.specs.Machine.{Machine}
+use Rattle.tta_designer.specs.Cited.{World, IsUntouched, Output, IsQuiet, IsPut, IsCut, Units, Machine, HasCause, Stages, AreStages, stages_text, stages_page, MachineFile, Status, HasText, ReadFailed, IsTooLong, IsBadMachine, IsProgramFor, RefusesProgramFor, IsBadProgram, IsOutside, Puts, OfPair, PairFault}
 use Rattle.tta_program.specs.Program.{Program}
 use Rattle.tta_build.specs.declared.error.BuildError.TheVariants as cause
-use Rattle.tta_build.specs.Statement.{HasCause}
-use Rattle.tta_stages.specs.declared.stages.Stages.{Stages}
-use Rattle.tta_stages.specs.Stages.{AreStages}
-use Rattle.tta_stages.specs.Text.{stages_text}
-use Rattle.tta_pages.specs.Pages.{stages_page}
-use Rattle.tta_given.specs.declared.machine.MachineFile.{MachineFile}
-use Rattle.tta_given.specs.declared.status.Status.{Status}
 use Rattle.tta_given.specs.declared.status.Status.TheVariants as status
-use Rattle.tta_given.specs.Held.{HasText, ReadFailed, IsTooLong}
-use Rattle.tta_given.specs.Machines.{IsBadMachine}
-use Rattle.tta_given.specs.Programs.{IsProgramFor, RefusesProgramFor, IsBadProgram, IsOutside}
-use Rattle.tta_given.specs.Ends.{Puts}
-use Rattle.tta_given.specs.Endings.{OfMachine, OfPair, PairFault}
+use Rattle.tta_given.specs.Endings.{OfMachine}
 use Rattle.tta_designer.specs.declared.view.StagesView.{StagesView}
 use Rattle.tta_designer.specs.declared.view.StagesView.TheVariants.{Lines, Page}
 

@@ -1,14 +1,8 @@
 -- What a command runs: the code of an image, or a program, which is compiled first. A file that begins as an image is one.
 use Rattle.std.specs.Prelude.{◌≡◌, ◌⊎◌, ℕ, Bool, true, false, nat_eq, List, codes}
 use Rattle.std.specs.List.{starts_with}
-use Rattle.tta_ops.specs.Units.{Units}
-use Rattle.tta_arch.specs.Machine.{Machine}
+use Rattle.tta_designer.specs.Cited.{Units, Machine, IsLegalCode, MachineFile, Status, IsImageFor, RefusesImage, IsProgramFor, RefusesProgramFor}
 use Rattle.tta_program.specs.Over as programs
-use Rattle.tta_code.specs.Legal.{IsLegalCode}
-use Rattle.tta_given.specs.declared.machine.MachineFile.{MachineFile}
-use Rattle.tta_given.specs.declared.status.Status.{Status}
-use Rattle.tta_given.specs.Images.{IsImageFor, RefusesImage}
-use Rattle.tta_given.specs.Programs.{IsProgramFor, RefusesProgramFor}
 use Rattle.tta_designer.specs.declared.subject.Subject.{Subject}
 use Rattle.tta_designer.specs.declared.subject.Subject.TheVariants.{Code, Program}
 

@@ -1,11 +1,6 @@
 -- What is shown of a machine, and of code with data for it.
 use Rattle.std.specs.Prelude.{ℕ, List}
-use Rattle.tta_ops.specs.Units.{Units}
-use Rattle.tta_code.specs.Whole.{Whole}
-use Rattle.tta_draw.specs.MachinePicture.{picture_of_machine}
-use Rattle.tta_info.specs.MachineInfo.{info_of_machine}
-use Rattle.tta_info.specs.ImageInfo.{info_of_image}
-use Rattle.tta_given.specs.declared.machine.MachineFile.{MachineFile}
+use Rattle.tta_designer.specs.Cited.{Units, Whole, picture_of_machine, info_of_machine, info_of_image, MachineFile}
 use Rattle.tta_designer.specs.declared.view.View.{View}
 use Rattle.tta_designer.specs.declared.view.View.TheVariants.{Picture, Info}
 

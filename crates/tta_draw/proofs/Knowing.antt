@@ -5,14 +5,8 @@ use Rattle.std.specs.Option.{option_map_or}
 use Rattle.std.proofs.lemmas.Bool.{and_parts, eqb-true}
 use Rattle.std.proofs.lemmas.List.{take_more, drop_more}
 use Rattle.std.proofs.lemmas.List.Sums.{fold-append}
-use Rattle.tta_arch.specs.declared.ends.Source.{Source}
+use Rattle.tta_draw.specs.Cited.{Source, Template, Machine, first_some, or_else, Instruction, Long, Move}
 use Rattle.tta_arch.specs.declared.ends.Source.TheVariants as source
-use Rattle.tta_arch.specs.declared.parts.Template.{Template}
-use Rattle.tta_arch.specs.Machine.{Machine}
-use Rattle.tta_arch.specs.Effects.{first_some, or_else}
-use Rattle.tta_code.specs.declared.code.Instruction.{Instruction}
-use Rattle.tta_code.specs.declared.code.Long.{Long}
-use Rattle.tta_code.specs.declared.code.Move.{Move}
 use Rattle.tta_draw.specs.declared.targets.Known.{Known}
 use Rattle.tta_draw.specs.Known.{is_of, known_word, learned, wrote}
 use Rattle.tta_draw.specs.Targets.{leading, long_word, nearest_word, source_word, target_of}

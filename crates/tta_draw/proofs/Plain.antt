@@ -5,14 +5,7 @@ use Rattle.std.specs.Char.{is_ascii_alphanumeric}
 use Rattle.std.proofs.lemmas.Bool.{and_parts, eqb-true}
 use Rattle.std.proofs.lemmas.Option.{get_or_from_slice_get}
 use Rattle.tta_list.proofs.Lists.{all_weaker, list_all_weaker}
-use Rattle.tta_text.specs.Words.{is_letter, first_is, is_run, is_name}
-use Rattle.tta_ops.specs.declared.OpId.{OpId}
-use Rattle.tta_ops.specs.Units.{Units}
-use Rattle.tta_arch.specs.declared.parts.Op.{Op}
-use Rattle.tta_arch.specs.declared.parts.Op.TheVariants.{Ldw, Stw, Ldf, Stf, Out, Take, Set}
-use Rattle.tta_arch.specs.Rules.{IsMachineName, names_of}
-use Rattle.tta_arch.specs.Over.{is_named}
-use Rattle.tta_asm.specs.Parts.{op_name}
+use Rattle.tta_draw.specs.Cited.{is_letter, first_is, is_run, is_name, OpId, Units, Op, Ldw, Stw, Ldf, Stf, Out, Take, Set, IsMachineName, names_of, is_named, op_name}
 use Rattle.tta_draw.specs.Laws.{is_plain, NamesArePlain}
 
 -- a byte of a name is none that XML would read otherwise

@@ -5,10 +5,7 @@ use Rattle.std.specs.Prelude.{IsTrue, slice_index_or}
 use Rattle.std.specs.List.{All, AllByRecursion}
 use Rattle.std.proofs.lemmas.Bool.{eqb-true}
 use Rattle.std.proofs.lemmas.List.Elements.{All-nil, All-cons}
-use Rattle.tta_arch.specs.Machine.{Machine}
-use Rattle.tta_arch.specs.Fields.{numbers}
-use Rattle.tta_code.specs.declared.code.Instruction.{Instruction}
-use Rattle.tta_code.specs.Legal.{is_legal}
+use Rattle.tta_draw.specs.Cited.{Machine, numbers, Instruction, is_legal}
 use Rattle.tta_draw.specs.declared.span.Span.{Span}
 use Rattle.tta_draw.specs.Lanes.{has_label}
 use Rattle.tta_draw.specs.CodePicture.{label_row_text, labels_text}

@@ -1,19 +1,9 @@
 -- The picture of code: a row for each instruction, with a cell for each move, and a bar for each result on the way.
 use Rattle.std.specs.Prelude.{ℕ, ◌+◌, ◌%◌, ◌==◌, nat_le, if◌then◌else◌, List, [], ◌∷◌, ◌++◌, length, Option, Some, None, codes}
 use Rattle.std.specs.List.{flat_map, enumerate_from}
-use Rattle.tta_ops.specs.Units.{Units}
-use Rattle.tta_arch.specs.declared.parts.Bus.{Bus}
+use Rattle.tta_draw.specs.Cited.{Units, Bus, Dest, Machine, has_bit, numbers, Code, Instruction, Long, Move, taken}
 use Rattle.tta_arch.specs.declared.parts.Unit.{Unit as OpUnit}
-use Rattle.tta_arch.specs.declared.ends.Dest.{Dest}
 use Rattle.tta_arch.specs.declared.ends.Dest.TheVariants as dest
-use Rattle.tta_arch.specs.Machine.{Machine}
-use Rattle.tta_arch.specs.Joins.{has_bit}
-use Rattle.tta_arch.specs.Fields.{numbers}
-use Rattle.tta_code.specs.declared.code.Code.{Code}
-use Rattle.tta_code.specs.declared.code.Instruction.{Instruction}
-use Rattle.tta_code.specs.declared.code.Long.{Long}
-use Rattle.tta_code.specs.declared.code.Move.{Move}
-use Rattle.tta_code.specs.Legal.{taken}
 use Rattle.tta_draw.specs.declared.frame.Frame.{Frame}
 use Rattle.tta_draw.specs.declared.remark.Remark.{Remark}
 use Rattle.tta_draw.specs.declared.sizes.Sizes.{Sizes}

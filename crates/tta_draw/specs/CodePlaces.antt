@@ -1,6 +1,6 @@
 -- Where the moves of code stand in its picture. All measures are pixels.
 use Rattle.std.specs.Prelude.{ℕ, ◌+◌, ◌-◌, ◌*◌, max, length}
-use Rattle.tta_arch.specs.Machine.{Machine}
+use Rattle.tta_draw.specs.Cited.{Machine}
 use Rattle.tta_draw.specs.declared.frame.Frame.{Frame}
 use Rattle.tta_draw.specs.declared.frame.Spot.{Spot}
 use Rattle.tta_draw.specs.declared.sizes.Sizes.{Sizes}

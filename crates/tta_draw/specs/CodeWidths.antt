@@ -1,11 +1,7 @@
 -- How wide the columns of the picture of code are, so that all that stands in them has room.
 use Rattle.std.specs.Prelude.{ℕ, ◌+◌, ◌*◌, max, List, [], ◌∷◌, length, Option, Some, None}
-use Rattle.tta_ops.specs.Units.{Units}
+use Rattle.tta_draw.specs.Cited.{Units, Machine, Instruction, Long, Move}
 use Rattle.tta_arch.specs.declared.parts.Unit.{Unit as OpUnit}
-use Rattle.tta_arch.specs.Machine.{Machine}
-use Rattle.tta_code.specs.declared.code.Instruction.{Instruction}
-use Rattle.tta_code.specs.declared.code.Long.{Long}
-use Rattle.tta_code.specs.declared.code.Move.{Move}
 use Rattle.tta_draw.specs.declared.remark.Remark.{Remark}
 use Rattle.tta_draw.specs.declared.sizes.Sizes.{Sizes}
 use Rattle.tta_draw.specs.Widths.{text_width}

@@ -2,11 +2,8 @@
 use Rattle.std.specs.Prelude.{ℕ, ◌-◌, Bool, true, false, List, Option, slice_range}
 use Rattle.std.specs.Option.{option_map_or}
 use Rattle.std.specs.List.{list_any}
-use Rattle.tta_arch.specs.declared.ends.Dest.{Dest}
+use Rattle.tta_draw.specs.Cited.{Dest, Machine, Instruction}
 use Rattle.tta_arch.specs.declared.ends.Dest.TheVariants as dest
-use Rattle.tta_arch.specs.Machine.{Machine}
-use Rattle.tta_code.specs.declared.code.Instruction.{Instruction}
-use Rattle.tta_code.specs.declared.code.Move.{Move}
 
 -- whether a move into this destination jumps, calls or halts
 abbrev pub steers : Dest → Bool

@@ -1,8 +1,6 @@
 -- The words that long immediates have written into immediate registers so far.
 use Rattle.std.specs.Prelude.{ℕ, ◌==◌, Bool, ◌&&◌, if◌then◌else◌, List, [], ◌∷◌, Option, Some, None, slice_get, option_and_then}
-use Rattle.tta_arch.specs.Machine.{Machine}
-use Rattle.tta_arch.specs.Effects.{first_some}
-use Rattle.tta_code.specs.declared.code.Long.{Long}
+use Rattle.tta_draw.specs.Cited.{Machine, first_some, Long}
 use Rattle.tta_draw.specs.declared.targets.Known.{Known}
 
 -- whether a word is that of an immediate register

@@ -1,13 +1,7 @@
 -- That no name in a picture needs an escape.
 use Rattle.std.specs.Prelude.{◌≡◌, ℕ, ◌==◌, Bool, true, not, ◌&&◌, List, Some}
 use Rattle.std.specs.List.{list_all, AllByRecursion}
-use Rattle.tta_ops.specs.Units.{Units}
-use Rattle.tta_arch.specs.declared.parts.UnitOp.{UnitOp}
-use Rattle.tta_arch.specs.Machine.{Machine}
-use Rattle.tta_arch.specs.Rules.{IsMachine, names_of}
-use Rattle.tta_arch.specs.Over.{StandsOver}
-use Rattle.tta_arch.specs.Effects.{op_at}
-use Rattle.tta_asm.specs.Parts.{op_name}
+use Rattle.tta_draw.specs.Cited.{Units, UnitOp, Machine, IsMachine, names_of, StandsOver, op_at, op_name}
 
 -- whether XML takes a text as it is: it has no '&' and no '<'
 abbrev pub is_plain : List ℕ → Bool

@@ -1,3 +1,4 @@
+pub mod Cited
 pub mod Svg
 pub mod Written
 pub mod Widths

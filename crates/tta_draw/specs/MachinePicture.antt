@@ -2,19 +2,8 @@
 use Rattle.std.specs.Prelude.{ℕ, ◌+◌, ◌==◌, Bool, if◌then◌else◌, List, [], ◌∷◌, ◌++◌, length, Option, slice_get, codes, decimal}
 use Rattle.std.specs.Option.{option_map_or}
 use Rattle.std.specs.List.{flat_map, enumerate_from}
-use Rattle.tta_ops.specs.Units.{Units}
-use Rattle.tta_arch.specs.declared.parts.Bus.{Bus}
-use Rattle.tta_arch.specs.declared.parts.Socket.{Socket}
-use Rattle.tta_arch.specs.declared.parts.File.{File}
-use Rattle.tta_arch.specs.declared.parts.ImmUnit.{ImmUnit}
+use Rattle.tta_draw.specs.Cited.{Units, Bus, Socket, File, ImmUnit, UnitOp, Template, Machine, has_bit, numbers, op_name, imm_name, place_text}
 use Rattle.tta_arch.specs.declared.parts.Unit.{Unit as OpUnit}
-use Rattle.tta_arch.specs.declared.parts.UnitOp.{UnitOp}
-use Rattle.tta_arch.specs.declared.parts.Template.{Template}
-use Rattle.tta_arch.specs.Machine.{Machine}
-use Rattle.tta_arch.specs.Joins.{has_bit}
-use Rattle.tta_arch.specs.Fields.{numbers}
-use Rattle.tta_asm.specs.Parts.{op_name}
-use Rattle.tta_asm.specs.Canonical.{imm_name, place_text}
 use Rattle.tta_draw.specs.Svg.{box_text, dot_text, label_text, count_text, head_text, tail_text}
 use Rattle.tta_draw.specs.Legends.{machine_legend}
 use Rattle.tta_draw.specs.MachineWidths.{port_width, port_width_if, file_width, imm_width, template_width, unit_width, control_width}

@@ -1,8 +1,7 @@
 -- Where the parts of a machine stand in its picture. All measures are pixels.
 use Rattle.std.specs.Prelude.{ℕ, ◌+◌, ◌-◌, ◌*◌, max, List, [], ◌∷◌, length}
-use Rattle.tta_ops.specs.Units.{Units}
+use Rattle.tta_draw.specs.Cited.{Units, Machine}
 use Rattle.tta_arch.specs.declared.parts.Unit.{Unit as OpUnit}
-use Rattle.tta_arch.specs.Machine.{Machine}
 use Rattle.tta_draw.specs.declared.frame.Frame.{Frame}
 use Rattle.tta_draw.specs.declared.frame.Spot.{Spot}
 use Rattle.tta_draw.specs.Svg.{frame, spot}

@@ -1,16 +1,8 @@
 -- How wide the parts of a machine are in its picture, so that their names stand beside one another.
 use Rattle.std.specs.Prelude.{ℕ, ◌+◌, max, List, [], ◌∷◌, length, Option, slice_get}
 use Rattle.std.specs.Option.{option_map_or}
-use Rattle.tta_ops.specs.Units.{Units}
-use Rattle.tta_arch.specs.declared.parts.Bus.{Bus}
-use Rattle.tta_arch.specs.declared.parts.File.{File}
-use Rattle.tta_arch.specs.declared.parts.ImmUnit.{ImmUnit}
-use Rattle.tta_arch.specs.declared.parts.Template.{Template}
+use Rattle.tta_draw.specs.Cited.{Units, Bus, File, ImmUnit, Template, UnitOp, Machine, op_name, imm_name}
 use Rattle.tta_arch.specs.declared.parts.Unit.{Unit as OpUnit}
-use Rattle.tta_arch.specs.declared.parts.UnitOp.{UnitOp}
-use Rattle.tta_arch.specs.Machine.{Machine}
-use Rattle.tta_asm.specs.Parts.{op_name}
-use Rattle.tta_asm.specs.Canonical.{imm_name}
 use Rattle.tta_draw.specs.Widths.{text_width}
 
 -- how much room a port takes: the name of its socket stands beside it

@@ -3,13 +3,8 @@ use Rattle.std.specs.Prelude.{ℕ, ◌+◌, ◌-◌, ◌==◌, if◌then◌else�
 use Rattle.std.specs.Option.{option_map_or}
 use Rattle.std.specs.List.{flat_map, enumerate_from}
 use Rattle.tta_arch.specs.declared.parts.Unit.{Unit as OpUnit}
-use Rattle.tta_arch.specs.declared.parts.UnitOp.{UnitOp}
-use Rattle.tta_arch.specs.declared.ends.Dest.{Dest}
+use Rattle.tta_draw.specs.Cited.{UnitOp, Dest, Machine, op_at, Instruction, Move}
 use Rattle.tta_arch.specs.declared.ends.Dest.TheVariants as dest
-use Rattle.tta_arch.specs.Machine.{Machine}
-use Rattle.tta_arch.specs.Effects.{op_at}
-use Rattle.tta_code.specs.declared.code.Instruction.{Instruction}
-use Rattle.tta_code.specs.declared.code.Move.{Move}
 use Rattle.tta_draw.specs.declared.span.Span.{Span}
 
 -- after how many cycles the result shows that a move into this destination starts in a unit; 0 if it starts none there

@@ -1,10 +1,7 @@
 -- What the picture of code writes into its cells.
 use Rattle.std.specs.Prelude.{List, ℕ, ◌++◌, codes, decimal}
-use Rattle.tta_ops.specs.Units.{Units}
-use Rattle.tta_arch.specs.Machine.{Machine}
-use Rattle.tta_code.specs.declared.code.Move.{Move}
-use Rattle.tta_code.specs.declared.code.Long.{Long}
-use Rattle.tta_asm.specs.Canonical.{move_text, template_name}
+use Rattle.tta_draw.specs.Cited.{Units, Machine, Move, Long, template_name}
+use Rattle.tta_asm.specs.Canonical.{move_text}
 
 -- a move, as assembly has it
 unfoldable pub written_move : Units → Machine → Move → List ℕ

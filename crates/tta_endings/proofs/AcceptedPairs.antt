@@ -1,15 +1,8 @@
 -- A pair that is accepted has no cause of `build` but that of memory, and that its code is too long.
 use Rattle.std.proofs.Common.{◌≡◌, ◌⊎◌, ℕ, refl, inl, inr, arith}
-use Rattle.tta_ops.specs.Units.{Units}
-use Rattle.tta_arch.specs.Machine.{Machine}
+use Rattle.tta_endings.specs.Cited.{Units, Machine, IsAccepted, Direct, Covered, BreaksRule, LacksUnit, LacksFrames, LacksRoom, LacksConvertedRoom, IsRoomy, Status, IsCauseOf, IsConvertedCauseOf}
 use Rattle.tta_program.specs.Program.{Program}
-use Rattle.tta_build.specs.Statement.{IsAccepted, Direct, Covered, BreaksRule, LacksUnit, LacksFrames, LacksRoom}
-use Rattle.tta_build.specs.Converted.{LacksConvertedRoom}
-use Rattle.tta_build.specs.Completes.{IsRoomy}
-use Rattle.tta_given.specs.declared.status.Status.{Status}
 use Rattle.tta_given.specs.declared.status.Status.TheVariants as status
-use Rattle.tta_tool.specs.Build.{IsCauseOf}
-use Rattle.tta_tool.specs.BuildConverted.{IsConvertedCauseOf}
 use Rattle.tta_endings.specs.WriteCompletes.{IsFull}
 
 module _ (u : Units) (m : Machine) (p : Program) where

@@ -1,12 +1,6 @@
 -- Where files hold what `rtl` and `rtl net` show, and no call fails, it is shown, unless memory lacks or a program's code is too long.
 use Rattle.std.proofs.Common.{length, inl, inr}
-use Rattle.tta_network.specs.CoreFiles.{AreLinks, RefusesLinks, cores_in}
-use Rattle.tta_given.specs.Held.{no_memory}
-use Rattle.tta_designer.specs.Subjects.{IsSubject, RefusesSubject}
-use Rattle.tta_designer.specs.Circuits.{IsCircuitText}
-use Rattle.tta_designer.specs.Runs.{Lacks}
-use Rattle.tta_designer.specs.Depths.{depths_in}
-use Rattle.tta_designer.specs.Joining.{IsNetText}
+use Rattle.tta_endings.specs.Cited.{AreLinks, RefusesLinks, cores_in, no_memory, IsSubject, RefusesSubject, IsCircuitText, Lacks, depths_in, IsNetText}
 use Rattle.tta_endings.specs.CircuitCompletes.{CircuitCompletes, NetTextCompletes}
 use Rattle.tta_endings.proofs.FilesTaken.{file_only}
 use Rattle.tta_endings.proofs.NetTaken.{links_only, cores_only}

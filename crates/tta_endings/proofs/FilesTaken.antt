@@ -2,17 +2,9 @@
 use Rattle.std.proofs.Common.{◌≡◌, ℕ, List, Option, Some, None, Ok, refl, sym, ◌∙◌, ap, subst, inl, inr}
 use Rattle.std.specs.Prelude.{Result}
 use Rattle.tta_ports.specs.declared.fault.Fault.{Fault}
-use Rattle.tta_ports.specs.Store.{Store}
-use Rattle.tta_ports.specs.Faults.{Rose}
-use Rattle.tta_ports.specs.World.{World}
-use Rattle.tta_ops.specs.Units.{Units}
-use Rattle.tta_program.specs.Program.{Program, first_outside}
-use Rattle.tta_given.specs.declared.machine.MachineFile.{MachineFile}
-use Rattle.tta_given.specs.declared.status.Status.{Status}
+use Rattle.tta_endings.specs.Cited.{Store, Rose, World, Units, first_outside, MachineFile, Status, IsHeld, ReadFails, FileFails, IsDescribed, RefusesMachine, IsProgramIn, RefusesProgram}
+use Rattle.tta_program.specs.Program.{Program}
 use Rattle.tta_given.specs.declared.status.Status.TheVariants as status
-use Rattle.tta_given.specs.Held.{IsHeld, ReadFails, FileFails}
-use Rattle.tta_given.specs.Machines.{IsDescribed, RefusesMachine}
-use Rattle.tta_given.specs.Programs.{IsProgramIn, RefusesProgram}
 use Rattle.tta_endings.specs.Completes.{showing}
 use Rattle.tta_endings.proofs.OneProgram.{one_program, not_refused}
 use Rattle.tta_endings.proofs.TooLongs.{too_long_alone}

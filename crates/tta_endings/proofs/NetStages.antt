@@ -1,25 +1,9 @@
 -- What the clause of `net` says at a status is what the one stage says that can end so.
 use Rattle.std.proofs.Common.{◌≡◌, inl, inr, ℕ, Bool, true, false, List, length, Option, None, Some, refl, sym, ap, subst, ◌∙◌, ⊎_elim}
-use Rattle.tta_ports.specs.Store.{Store}
-use Rattle.tta_ports.specs.World.{World, IsUntouched}
-use Rattle.tta_ports.specs.Output.{Output, IsQuiet, IsPut, IsCut}
-use Rattle.tta_ops.specs.Units.{Units}
+use Rattle.tta_endings.specs.Cited.{Store, World, IsUntouched, Output, IsQuiet, IsPut, IsCut, Units, Core, Network, Joined, joined, AreAtRest, cycles, first_states, Feeds, Turn, HasEnded, Status, HasText, Held, ReadFails, ReadFailed, FileFails, HasMachine, RefusesMachine, IsImageFor, RefusesImage, RefusesInput, HasPair, AreLinks, RefusesLinks, cores_in, name_of, word_of, as_core, HasCores, CoreFileFails, CoreFails, CoresFail, net_text, rounds_status, HasMadeRounds, NetReports, Nets}
 use Rattle.tta_code.specs.Cycle.{State}
-use Rattle.tta_cores.specs.declared.cores.Core.{Core}
-use Rattle.tta_cores.specs.Network.{Network, Joined, joined, AreAtRest}
-use Rattle.tta_cores.specs.Cluster.{cycles, first_states}
-use Rattle.tta_links.specs.Links.{Feeds}
-use Rattle.tta_net.specs.declared.turn.Turn.{Turn}
-use Rattle.tta_net.specs.Rounds.{HasEnded}
-use Rattle.tta_given.specs.declared.status.Status.{Status}
 use Rattle.tta_given.specs.declared.status.Status.TheVariants as status
-use Rattle.tta_given.specs.Held.{HasText, Held, ReadFails, ReadFailed, IsTooLong, FileFails}
-use Rattle.tta_given.specs.Machines.{HasMachine, RefusesMachine}
-use Rattle.tta_given.specs.Images.{IsImageFor, RefusesImage}
-use Rattle.tta_given.specs.Inputs.{RefusesInput}
-use Rattle.tta_given.specs.Pairs.{HasPair}
-use Rattle.tta_network.specs.CoreFiles.{AreLinks, RefusesLinks, cores_in, name_of, word_of, as_core, HasCores, CoreFileFails, CoreFails, CoresFail}
-use Rattle.tta_network.specs.Net.{net_text, rounds_status, HasMadeRounds, NetReports, Nets}
+use Rattle.tta_given.specs.Held.{IsTooLong}
 use Rattle.tta_endings.specs.NetEndings.{ComeTo, least_fault, OfCore, CoreFault, CoreRefused, NetFault}
 use Rattle.tta_network.proofs.RoundsMade.{ended_with}
 

@@ -4,32 +4,9 @@ use Rattle.std.proofs.lemmas.Bool.{cases_lt}
 use Rattle.std.proofs.lemmas.List.{length-map}
 use Rattle.std.proofs.lemmas.Option.{slice_get_within}
 use Rattle.tta_ports.specs.declared.fault.Fault.{Fault}
-use Rattle.tta_ports.specs.Store.{Store}
-use Rattle.tta_ports.specs.Faults.{Rose}
-use Rattle.tta_ports.specs.World.{World}
-use Rattle.tta_ports.specs.Output.{Output}
-use Rattle.tta_input.specs.Input.{input_of}
-use Rattle.tta_ops.specs.Units.{Units}
-use Rattle.tta_list.specs.Laid.{over}
-use Rattle.tta_code.specs.Whole.{Whole, data_in}
+use Rattle.tta_endings.specs.Cited.{Store, Rose, World, Output, input_of, Units, over, Whole, data_in, Core, Network, Joined, joined, AreAtRest, cycles, first_states, Feeds, links_of, Turn, fault_at, StopsAfter, went_in, last_answers, after_rounds, HasEnded, MachineFile, Status, IsHeld, IsDescribed, RefusesMachine, IsImageFor, RefusesImage, Fills, RefusesInput, AreLinks, RefusesLinks, cores_in, name_of, word_of, IsCoreFrom, as_core, CoreFileFails, CoreFails, HasCores, CoresFail, first_fault, rounds_status, NetPuts, NetReports, CoresReport}
 use Rattle.tta_code.specs.Cycle.{State}
-use Rattle.tta_cores.specs.declared.cores.Core.{Core}
-use Rattle.tta_cores.specs.Network.{Network, Joined, joined, AreAtRest}
-use Rattle.tta_cores.specs.Cluster.{cycles, first_states}
-use Rattle.tta_links.specs.Links.{Feeds}
-use Rattle.tta_links.specs.Text.{links_of}
-use Rattle.tta_net.specs.declared.turn.Turn.{Turn}
-use Rattle.tta_net.specs.Clusters.{fault_at}
-use Rattle.tta_net.specs.Rounds.{StopsAfter, went_in, last_answers, after_rounds, HasEnded}
-use Rattle.tta_given.specs.declared.machine.MachineFile.{MachineFile}
-use Rattle.tta_given.specs.declared.status.Status.{Status}
 use Rattle.tta_given.specs.declared.status.Status.TheVariants as status
-use Rattle.tta_given.specs.Held.{IsHeld}
-use Rattle.tta_given.specs.Machines.{IsDescribed, RefusesMachine}
-use Rattle.tta_given.specs.Images.{IsImageFor, RefusesImage}
-use Rattle.tta_given.specs.Inputs.{Fills, RefusesInput}
-use Rattle.tta_network.specs.CoreFiles.{AreLinks, RefusesLinks, cores_in, name_of, word_of, IsCoreFrom, as_core, CoreFileFails, CoreFails, HasCores, CoresFail}
-use Rattle.tta_network.specs.Net.{first_fault, rounds_status, NetPuts, NetReports, CoresReport}
 use Rattle.tta_endings.specs.Completes.{showing}
 use Rattle.tta_endings.specs.NetCompletes.{HasRestingNet, NetCompletes}
 use Rattle.tta_endings.specs.PutCompletes.{IsUndisturbed}

@@ -1,14 +1,8 @@
 -- A text is one program at most, and none where it is refused.
 use Rattle.std.proofs.Common.{◌≡◌, ℕ, List, Option, Some, None, Ok, refl, sym, ◌∙◌, ap, subst}
 use Rattle.std.specs.Prelude.{codes}
-use Rattle.tta_reading.specs.Names.{named_in}
-use Rattle.tta_ops.specs.Units.{Units}
-use Rattle.tta_program.specs.declared.program.Proc.{Proc}
-use Rattle.tta_program.specs.declared.program.DataLine.{DataLine}
+use Rattle.tta_endings.specs.Cited.{named_in, Units, Proc, DataLine, Reaches, Refusal, Linked, linked_text, with_main, ProgramText, IsRefusedAt, InPasses, ByRecursion, WithoutMain}
 use Rattle.tta_program.specs.Program.{Program}
-use Rattle.tta_program.specs.Rules.{Reaches}
-use Rattle.tta_tac.specs.declared.refusal.Refusal.{Refusal}
-use Rattle.tta_tac.specs.Text.{Linked, linked_text, with_main, ProgramText, IsRefusedAt, InPasses, ByRecursion, WithoutMain}
 
 module _ (u : Units) (text : List ℕ) where
   -- what both passes make of a text is one

@@ -3,25 +3,10 @@
 use Rattle.std.proofs.Common.{◌≡◌, ◌⊎◌, ℕ, List, length, Option, Some, Ok, refl, sym, ◌∙◌, subst, inl, inr}
 use Rattle.sha2.proofs.Facts256.{length-sha256}
 use Rattle.tta_ports.specs.declared.fault.Fault.{Fault}
-use Rattle.tta_ports.specs.Store.{Store}
-use Rattle.tta_ports.specs.Faults.{Rose}
-use Rattle.tta_ports.specs.World.{World}
-use Rattle.tta_ops.specs.Units.{Units}
-use Rattle.tta_arch.specs.Machine.{Machine}
-use Rattle.tta_machine.specs.Text.{machine_of_text}
+use Rattle.tta_endings.specs.Cited.{Store, Rose, World, Units, Machine, machine_of_text, Whole, decoded_image, MachineFile, Status, IsHeld, FileFails, IsDescribed, RefusesMachine, HasMachine, IsAssemblyFor, RefusesAssembly, IsImageFor, RefusesImage, HasPair, PairFails, WritingEnds, Writes}
 use Rattle.tta_machine.proofs.Said.{text_machine}
-use Rattle.tta_code.specs.Whole.{Whole}
-use Rattle.tta_image.specs.Reading.{decoded_image}
 use Rattle.tta_image.proofs.ImageDecoded.{decoded_of_image}
-use Rattle.tta_given.specs.declared.machine.MachineFile.{MachineFile}
-use Rattle.tta_given.specs.declared.status.Status.{Status}
 use Rattle.tta_given.specs.declared.status.Status.TheVariants as status
-use Rattle.tta_given.specs.Held.{IsHeld, FileFails}
-use Rattle.tta_given.specs.Machines.{IsDescribed, RefusesMachine, HasMachine}
-use Rattle.tta_given.specs.Assemblies.{IsAssemblyFor, RefusesAssembly}
-use Rattle.tta_given.specs.Images.{IsImageFor, RefusesImage}
-use Rattle.tta_given.specs.Pairs.{HasPair, PairFails}
-use Rattle.tta_given.specs.Ends.{WritingEnds, Writes}
 use Rattle.tta_endings.specs.Completes.{showing}
 use Rattle.tta_endings.proofs.FilesTaken.{same_some, same_read, machine_only, file_only}
 

@@ -1,22 +1,11 @@
 -- Where files hold all that a command runs, and no call fails, it is run, unless memory lacks.
 use Rattle.std.proofs.Common.{◌≡◌, ◌⊎◌, ℕ, List, Option, Some, None, refl, sym, ◌∙◌, subst, inl, inr}
 use Rattle.tta_ports.specs.declared.fault.Fault.{Fault}
-use Rattle.tta_ports.specs.Store.{Store}
-use Rattle.tta_ports.specs.Faults.{Rose}
-use Rattle.tta_ports.specs.World.{World}
-use Rattle.tta_ports.specs.Output.{Output}
-use Rattle.tta_input.specs.Input.{input_of, stream_of}
-use Rattle.tta_ops.specs.Units.{Units}
+use Rattle.tta_endings.specs.Cited.{Store, Rose, World, Output, input_of, stream_of, Units, MachineFile, Status, FileFails, Fills, RefusesInput, HasInput, IsInput, RefusesStream, IsStream, HasPair, HasGiven, GivenRuns, PairRuns, ReportEnds}
 use Rattle.tta_run.specs.declared.ended.Ended.{Ended}
 use Rattle.tta_run.specs.declared.ended.Ended.TheVariants as ended
-use Rattle.tta_given.specs.declared.machine.MachineFile.{MachineFile}
-use Rattle.tta_given.specs.declared.status.Status.{Status}
 use Rattle.tta_given.specs.declared.status.Status.TheVariants as status
-use Rattle.tta_given.specs.Held.{FileFails}
-use Rattle.tta_given.specs.Inputs.{Fills, RefusesInput, HasInput, IsInput, RefusesStream, IsStream, StreamFails}
-use Rattle.tta_given.specs.Pairs.{HasPair}
-use Rattle.tta_given.specs.Runs.{HasGiven, GivenRuns, PairRuns}
-use Rattle.tta_tool.specs.Runs.{ReportEnds}
+use Rattle.tta_given.specs.Inputs.{StreamFails}
 use Rattle.tta_endings.specs.Completes.{showing}
 use Rattle.tta_endings.proofs.FilesTaken.{same_read, file_only}
 use Rattle.tta_endings.proofs.PairsTaken.{same_held, for_pair, pair_only}

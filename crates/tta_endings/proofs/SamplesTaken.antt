@@ -1,24 +1,10 @@
 -- How `sample` ends where no call fails: it puts its summary, is out of memory, or there is a cause for which no code is built.
 use Rattle.std.proofs.Common.{◌≡◌, ◌⊎◌, ℕ, List, Option, refl, subst, inl, inr}
-use Rattle.tta_ports.specs.Faults.{Rose}
-use Rattle.tta_ports.specs.Output.{Output}
-use Rattle.tta_ops.specs.Units.{Units}
-use Rattle.tta_arch.specs.Machine.{Machine}
+use Rattle.tta_endings.specs.Cited.{Rose, Output, Units, Machine, sample_text, Whole, MachineFile, Status, IsDescribed, RefusesMachine, IsProgramIn, step_bound, program_after, CompareEnds, CompileEnds, SampleForEnds, Store, World, IsCauseOf, Samples}
 use Rattle.tta_program.specs.Program.{Program}
 use Rattle.tta_program.specs.Sequential as sequential
-use Rattle.tta_sample.specs.Sample.{sample_text}
-use Rattle.tta_code.specs.Whole.{Whole}
-use Rattle.tta_given.specs.declared.machine.MachineFile.{MachineFile}
-use Rattle.tta_given.specs.declared.status.Status.{Status}
 use Rattle.tta_given.specs.declared.status.Status.TheVariants as status
-use Rattle.tta_given.specs.Machines.{IsDescribed, RefusesMachine}
-use Rattle.tta_given.specs.Programs.{IsProgramIn}
-use Rattle.tta_tool.specs.Sample.{step_bound, program_after, CompareEnds, CompileEnds, SampleForEnds}
 use Rattle.tta_ports.specs.declared.fault.Fault.{Fault}
-use Rattle.tta_ports.specs.Store.{Store}
-use Rattle.tta_ports.specs.World.{World}
-use Rattle.tta_tool.specs.Build.{IsCauseOf}
-use Rattle.tta_tool.specs.Sample.{Samples}
 use Rattle.tta_endings.specs.Completes.{showing}
 use Rattle.tta_endings.specs.PutCompletes.{IsUndisturbed, HasHaltingSample, SampleCompletes, SampleCompletesWithoutRoom}
 use Rattle.tta_endings.proofs.OneProgram.{one_program}

@@ -1,16 +1,8 @@
 -- Where files hold what a command shows, and no call fails, its text is put, unless memory lacks or there is a cause to make none.
 use Rattle.std.proofs.Common.{◌≡◌, ◌⊎◌, ℕ, List, Option, Some, refl, inl, inr}
 use Rattle.tta_ports.specs.declared.fault.Fault.{Fault}
-use Rattle.tta_ports.specs.Store.{Store}
-use Rattle.tta_ports.specs.Faults.{Rose}
-use Rattle.tta_ports.specs.World.{World}
-use Rattle.tta_ports.specs.Output.{Output}
-use Rattle.tta_ops.specs.Units.{Units}
-use Rattle.tta_given.specs.declared.machine.MachineFile.{MachineFile}
-use Rattle.tta_given.specs.declared.status.Status.{Status}
+use Rattle.tta_endings.specs.Cited.{Store, Rose, World, Output, Units, MachineFile, Status, HasPair, PutEnds, TextEnds, Puts}
 use Rattle.tta_given.specs.declared.status.Status.TheVariants as status
-use Rattle.tta_given.specs.Pairs.{HasPair}
-use Rattle.tta_given.specs.Ends.{PutEnds, TextEnds, Puts}
 use Rattle.tta_endings.specs.Completes.{showing}
 use Rattle.tta_endings.specs.PutCompletes.{IsUndisturbed}
 use Rattle.tta_endings.proofs.PairsTaken.{for_pair, pair_only}

@@ -1,9 +1,7 @@
 -- A file of more bytes than are read holds nothing that a command reads: so no other cause comes with that of a long file.
 use Rattle.std.proofs.Common.{ℕ, ◌≤◌, ◌<◌, List, length, Some, subst, arith}
 use Rattle.std.specs.Prelude.{IsSomeAnd}
-use Rattle.tta_ports.specs.Store.{Store}
-use Rattle.tta_ports.specs.Files.{HoldsMore}
-use Rattle.tta_given.specs.Held.{limit, HasText}
+use Rattle.tta_endings.specs.Cited.{Store, HoldsMore, limit, HasText}
 
 pub too_long_alone : (store : Store) (name : List ℕ) (Is : List ℕ → Type 0) (count : ℕ) → limit < count → HoldsMore (Some store) name count
     → HasText (Some store) name Is → ⊥

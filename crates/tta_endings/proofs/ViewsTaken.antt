@@ -2,38 +2,14 @@
 use Rattle.std.proofs.Common.{◌≡◌, ◌⊎◌, ℕ, List, Option, Some, None, refl, ap, subst, inl, inr}
 use Rattle.std.specs.Prelude.{Err}
 use Rattle.tta_ports.specs.declared.fault.Fault.{Fault}
-use Rattle.tta_ports.specs.Store.{Store}
-use Rattle.tta_ports.specs.Faults.{Rose}
-use Rattle.tta_ports.specs.World.{World}
-use Rattle.tta_ports.specs.Output.{Output}
-use Rattle.tta_lines.specs.Come.{Come}
-use Rattle.tta_ops.specs.Units.{Units}
-use Rattle.tta_arch.specs.Machine.{Machine}
+use Rattle.tta_endings.specs.Cited.{Store, Rose, World, Output, Come, Units, Machine, Whole, Debugged, LinesFailed, TooLong, SinkFailed, MachineFile, Status, IsDescribed, RefusesMachine, IsImageFor, RefusesImage, IsProgramFor, RefusesProgramFor, IsInput, RefusesStream, IsStream, no_memory, HasPair, IsCauseOf, Subject, IsSubject, RefusesSubject, machine_view, IsTold, IsPictureText, Lacks, Tells, StagesView, IsStagesOf, ShowsStages, GivenFails, FilesFail}
 use Rattle.tta_program.specs.Program.{Program as Program'}
 use Rattle.tta_code.specs.declared.code.Code.{Code as Code'}
-use Rattle.tta_code.specs.Whole.{Whole}
-use Rattle.tta_debug.specs.Debugged.{Debugged}
-use Rattle.tta_prompt.specs.declared.error.PromptError.TheVariants.{LinesFailed, TooLong, SinkFailed}
-use Rattle.tta_given.specs.declared.machine.MachineFile.{MachineFile}
-use Rattle.tta_given.specs.declared.status.Status.{Status}
 use Rattle.tta_given.specs.declared.status.Status.TheVariants as status
-use Rattle.tta_given.specs.Machines.{IsDescribed, RefusesMachine}
-use Rattle.tta_given.specs.Images.{IsImageFor, RefusesImage}
-use Rattle.tta_given.specs.Programs.{IsProgramFor, RefusesProgramFor}
-use Rattle.tta_given.specs.Inputs.{IsInput, RefusesStream, IsStream}
-use Rattle.tta_given.specs.Held.{no_memory}
-use Rattle.tta_given.specs.Pairs.{HasPair}
-use Rattle.tta_tool.specs.Build.{IsCauseOf}
-use Rattle.tta_designer.specs.declared.subject.Subject.{Subject}
 use Rattle.tta_designer.specs.declared.subject.Subject.TheVariants.{Code, Program}
-use Rattle.tta_designer.specs.Subjects.{IsSubject, RefusesSubject}
-use Rattle.tta_designer.specs.Views.{machine_view}
-use Rattle.tta_designer.specs.Command.{IsTold}
-use Rattle.tta_designer.specs.Pictures.{IsPictureText}
-use Rattle.tta_designer.specs.Runs.{IsShown, Lacks, Tells}
-use Rattle.tta_designer.specs.declared.view.StagesView.{StagesView}
-use Rattle.tta_designer.specs.Stages.{IsStagesOf, ShowsStages, IsCauseOf as IsStageCause}
-use Rattle.tta_designer.specs.Prompts.{StreamFails, GivenFails, Ended, SessionEnds, FilesFail}
+use Rattle.tta_designer.specs.Runs.{IsShown}
+use Rattle.tta_designer.specs.Stages.{IsCauseOf as IsStageCause}
+use Rattle.tta_designer.specs.Prompts.{StreamFails, Ended, SessionEnds}
 use Rattle.tta_endings.specs.Completes.{showing}
 use Rattle.tta_endings.specs.PutCompletes.{IsUndisturbed}
 use Rattle.tta_endings.specs.ViewCompletes.{MachineViewCompletes, InfoCompletes, PictureCompletes, IsRunnable, IsTooLong, RunViewCompletes}

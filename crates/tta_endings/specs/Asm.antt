@@ -1,15 +1,9 @@
 -- How the command `asm` ends, by its status.
 use Rattle.std.specs.Prelude.{◌↔◌, ℕ, List}
-use Rattle.tta_ports.specs.World.{World, IsUntouched}
-use Rattle.tta_ops.specs.Units.{Units}
-use Rattle.tta_given.specs.declared.status.Status.{Status}
+use Rattle.tta_endings.specs.Cited.{World, IsUntouched, Units, Status, HasText, ReadFailed, IsBadMachine, IsAssemblyFor, IsBadAssembly, IsWritten, WriteFailed, OfPair, PairFault, Assembles, IsAssembled}
 use Rattle.tta_given.specs.declared.status.Status.TheVariants as status
-use Rattle.tta_given.specs.Held.{HasText, ReadFailed, IsTooLong}
-use Rattle.tta_given.specs.Machines.{IsBadMachine}
-use Rattle.tta_given.specs.Assemblies.{IsAssemblyFor, IsBadAssembly}
-use Rattle.tta_given.specs.Ends.{IsWritten, WriteFailed}
-use Rattle.tta_given.specs.Endings.{OfMachine, OfPair, PairFault}
-use Rattle.tta_tool.specs.Asm.{Assembles, IsAssembled}
+use Rattle.tta_given.specs.Held.{IsTooLong}
+use Rattle.tta_given.specs.Endings.{OfMachine}
 
 -- what holds where `asm M A OUT` ends with a status
 abbrev pub AsmEndings : Units → (M A OUT : List ℕ) → (before after : World) → Status → Type 0

@@ -1,17 +1,10 @@
 -- How the command `build` ends, by its status.
 use Rattle.std.specs.Prelude.{◌↔◌, ℕ, List}
-use Rattle.tta_ports.specs.World.{World, IsUntouched}
-use Rattle.tta_ops.specs.Units.{Units}
+use Rattle.tta_endings.specs.Cited.{World, IsUntouched, Units, HasCause, Status, HasText, ReadFailed, IsBadMachine, IsProgramFor, IsBadProgram, IsOutside, IsWritten, WriteFailed, OfPair, PairFault, Builds, IsImageOf}
 use Rattle.tta_build.specs.declared.error.BuildError.TheVariants as cause
-use Rattle.tta_build.specs.Statement.{HasCause}
-use Rattle.tta_given.specs.declared.status.Status.{Status}
 use Rattle.tta_given.specs.declared.status.Status.TheVariants as status
-use Rattle.tta_given.specs.Held.{HasText, ReadFailed, IsTooLong}
-use Rattle.tta_given.specs.Machines.{IsBadMachine}
-use Rattle.tta_given.specs.Programs.{IsProgramFor, IsBadProgram, IsOutside}
-use Rattle.tta_given.specs.Ends.{IsWritten, WriteFailed}
-use Rattle.tta_given.specs.Endings.{OfMachine, OfPair, PairFault}
-use Rattle.tta_tool.specs.Build.{Builds, IsImageOf}
+use Rattle.tta_given.specs.Held.{IsTooLong}
+use Rattle.tta_given.specs.Endings.{OfMachine}
 
 -- what holds where `build M P OUT` ends with a status
 abbrev pub BuildEndings : Units → (M P OUT : List ℕ) → (before after : World) → Status → Type 0

@@ -1,18 +1,9 @@
 -- How the command `check` ends, by its status.
 use Rattle.std.specs.Prelude.{◌≡◌, ◌↔◌, ℕ, List, Err, codes}
-use Rattle.tta_ports.specs.World.{World, IsUntouched}
-use Rattle.tta_ports.specs.Output.{Output, IsQuiet, IsPut, IsCut}
-use Rattle.tta_ops.specs.Units.{Units}
-use Rattle.tta_image.specs.declared.refusal.ImageError.TheVariants.{Refused}
-use Rattle.tta_image.specs.Reading.{decoded_image}
-use Rattle.tta_check.specs.Verdict.{IsUnsafe}
-use Rattle.tta_given.specs.declared.status.Status.{Status}
+use Rattle.tta_endings.specs.Cited.{World, IsUntouched, Output, IsQuiet, IsPut, IsCut, Units, Refused, decoded_image, IsUnsafe, Status, HasText, ReadFailed, IsBadMachine, IsImageFor, OfPair, PairFault, CannotFault, ChecksCode}
 use Rattle.tta_given.specs.declared.status.Status.TheVariants as status
-use Rattle.tta_given.specs.Held.{HasText, ReadFailed, IsTooLong}
-use Rattle.tta_given.specs.Machines.{IsBadMachine}
-use Rattle.tta_given.specs.Images.{IsImageFor}
-use Rattle.tta_given.specs.Endings.{OfMachine, OfPair, PairFault}
-use Rattle.tta_tool.specs.Check.{CannotFault, ChecksCode}
+use Rattle.tta_given.specs.Held.{IsTooLong}
+use Rattle.tta_given.specs.Endings.{OfMachine}
 
 -- what holds where `check M IMG` ends with a status. Code that cannot fault is not found unsafe, so each of the two comes only where
 -- the other cannot

@@ -1,18 +1,8 @@
 -- What `rtl` and `rtl net` take without fail.
 use Rattle.std.specs.Prelude.{◌≡◌, ◌⊎◌, ℕ, List, length, Option, Some}
 use Rattle.tta_ports.specs.declared.fault.Fault.{Fault}
-use Rattle.tta_ports.specs.Store.{Store}
-use Rattle.tta_ports.specs.World.{World}
-use Rattle.tta_ports.specs.Output.{Output}
-use Rattle.tta_ops.specs.Units.{Units}
-use Rattle.tta_given.specs.declared.status.Status.{Status}
+use Rattle.tta_endings.specs.Cited.{Store, World, Output, Units, Status, Held, HasPair, AreLinks, cores_in, HasCores, IsSubject, ShowsCircuit, ShowsNet}
 use Rattle.tta_given.specs.declared.status.Status.TheVariants as status
-use Rattle.tta_given.specs.Held.{Held}
-use Rattle.tta_given.specs.Pairs.{HasPair}
-use Rattle.tta_network.specs.CoreFiles.{AreLinks, cores_in, HasCores}
-use Rattle.tta_designer.specs.Subjects.{IsSubject}
-use Rattle.tta_designer.specs.Circuits.{ShowsCircuit}
-use Rattle.tta_designer.specs.Joining.{ShowsNet}
 use Rattle.tta_endings.specs.Completes.{showing}
 use Rattle.tta_endings.specs.PutCompletes.{IsUndisturbed}
 use Rattle.tta_endings.specs.ViewCompletes.{IsRunnable, IsTooLong}

@@ -1,16 +1,8 @@
 -- Which pairs `build` takes without fail.
 use Rattle.std.specs.Prelude.{◌≡◌, ◌⊎◌, ℕ, List, Option, Some}
 use Rattle.tta_ports.specs.declared.fault.Fault.{Fault}
-use Rattle.tta_ports.specs.Store.{Store}
-use Rattle.tta_ports.specs.Faults.{Rose}
-use Rattle.tta_ports.specs.World.{World}
-use Rattle.tta_ops.specs.Units.{Units}
-use Rattle.tta_build.specs.Completes.{IsRoomy}
-use Rattle.tta_given.specs.declared.status.Status.{Status}
+use Rattle.tta_endings.specs.Cited.{Store, Rose, World, Units, IsRoomy, Status, IsProgramFor, HasPair, Builds}
 use Rattle.tta_given.specs.declared.status.Status.TheVariants as status
-use Rattle.tta_given.specs.Programs.{IsProgramFor}
-use Rattle.tta_given.specs.Pairs.{HasPair}
-use Rattle.tta_tool.specs.Build.{Builds}
 
 -- files hold a machine and a program whose data lie in its data space; the pair is accepted, and has room
 pub record HasRoomyPair (u : Units) (store : Store) (M P : List ℕ) : Type 0 where

@@ -1,17 +1,9 @@
 -- Which programs `ifconv`, and `build` with the word `convert`, take without fail.
 use Rattle.std.specs.Prelude.{◌≡◌, ◌⊎◌, ℕ, List, Option, Some}
 use Rattle.tta_ports.specs.declared.fault.Fault.{Fault}
-use Rattle.tta_ports.specs.Store.{Store}
-use Rattle.tta_ports.specs.Faults.{Rose}
-use Rattle.tta_ports.specs.World.{World}
-use Rattle.tta_ops.specs.Units.{Units}
-use Rattle.tta_tac.specs.Text.{ProgramText}
-use Rattle.tta_given.specs.declared.status.Status.{Status}
+use Rattle.tta_endings.specs.Cited.{Store, Rose, World, Units, ProgramText, Status, Held, WritesConverted, BuildsConverted}
 use Rattle.tta_given.specs.declared.status.Status.TheVariants as status
-use Rattle.tta_given.specs.Held.{Held}
 use Rattle.tta_endings.specs.Completes.{HasRoomyPair, showing}
-use Rattle.tta_tool.specs.Ifconv.{WritesConverted}
-use Rattle.tta_tool.specs.BuildConverted.{BuildsConverted}
 
 -- `ifconv` of a file that holds a program, where no call on the files fails, writes the text or is out of memory, and ends in
 -- no other way

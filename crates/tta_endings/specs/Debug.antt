@@ -1,24 +1,10 @@
 -- How the command `debug` ends, by its status.
 use Rattle.std.specs.Prelude.{◌≡◌, ◌↔◌, ◌⊎◌, ℕ, false, List, Option, Err}
-use Rattle.tta_ports.specs.Store.{Store}
-use Rattle.tta_ports.specs.World.{World, IsUntouched}
-use Rattle.tta_ports.specs.Output.{Output, IsQuiet, IsPut, IsCut}
-use Rattle.tta_ops.specs.Units.{Units}
+use Rattle.tta_endings.specs.Cited.{Store, World, IsUntouched, Output, IsQuiet, IsPut, IsCut, Units, is_fault, Debugged, input_of, stream_of, Refused, decoded_image, Status, HasText, ReadFailed, IsBadMachine, IsImageFor, HasPair, OfPair, PairFault, HasThree, OfNamed, Debugs, HasAsked, HasBytes, said}
 use Rattle.tta_code.specs.Cycle.{Fault}
-use Rattle.tta_sim.specs.Held.{is_fault}
-use Rattle.tta_debug.specs.Debugged.{Debugged}
-use Rattle.tta_input.specs.Input.{input_of, stream_of}
-use Rattle.tta_image.specs.declared.refusal.ImageError.TheVariants.{Refused}
-use Rattle.tta_image.specs.Reading.{decoded_image}
-use Rattle.tta_given.specs.declared.status.Status.{Status}
 use Rattle.tta_given.specs.declared.status.Status.TheVariants as status
-use Rattle.tta_given.specs.Held.{HasText, ReadFailed, IsTooLong}
-use Rattle.tta_given.specs.Machines.{IsBadMachine}
-use Rattle.tta_given.specs.Images.{IsImageFor}
-use Rattle.tta_given.specs.Pairs.{HasPair}
-use Rattle.tta_given.specs.Endings.{OfMachine, OfPair, PairFault}
-use Rattle.tta_given.specs.Endings.{HasThree, OfNamed}
-use Rattle.tta_tool.specs.Debug.{Debugs, HasAsked, HasBytes, said}
+use Rattle.tta_given.specs.Held.{IsTooLong}
+use Rattle.tta_given.specs.Endings.{OfMachine}
 
 -- files hold all that a session is asked, and something is true of all that it replies and what it leaves
 abbrev pub HasSession : Units → (files : Option Store) → (M IMG IN SCRIPT : List ℕ) → (STREAM : Option (List ℕ)) → (Is : List ℕ × Debugged → Type 0) → Type 0

@@ -1,17 +1,10 @@
 -- How the command `dis` ends, by its status.
 use Rattle.std.specs.Prelude.{◌≡◌, ◌↔◌, ℕ, List, Err}
-use Rattle.tta_ports.specs.World.{World, IsUntouched}
-use Rattle.tta_ops.specs.Units.{Units}
-use Rattle.tta_image.specs.declared.refusal.ImageError.TheVariants.{Refused}
-use Rattle.tta_image.specs.Reading.{decoded_image}
-use Rattle.tta_given.specs.declared.status.Status.{Status}
+use Rattle.tta_endings.specs.Cited.{World, IsUntouched, Units, Refused, decoded_image, Status, HasText, ReadFailed, IsBadMachine, IsImageFor, IsWritten, WriteFailed, OfPair, PairFault, Shows}
 use Rattle.tta_given.specs.declared.status.Status.TheVariants as status
-use Rattle.tta_given.specs.Held.{HasText, ReadFailed, IsTooLong}
-use Rattle.tta_given.specs.Machines.{IsBadMachine}
-use Rattle.tta_given.specs.Images.{IsImageFor}
-use Rattle.tta_given.specs.Ends.{IsWritten, WriteFailed}
-use Rattle.tta_given.specs.Endings.{OfMachine, OfPair, PairFault}
-use Rattle.tta_tool.specs.Dis.{IsShown, Shows}
+use Rattle.tta_given.specs.Held.{IsTooLong}
+use Rattle.tta_given.specs.Endings.{OfMachine}
+use Rattle.tta_tool.specs.Dis.{IsShown}
 
 -- what holds where `dis M IMG OUT` ends with a status
 abbrev pub DisEndings : Units → (M IMG OUT : List ℕ) → (before after : World) → Status → Type 0

@@ -1,21 +1,11 @@
 -- How the command `exec` ends, by its status.
 use Rattle.std.specs.Prelude.{◌≡◌, ◌↔◌, ℕ, List, Option, Err}
-use Rattle.tta_input.specs.Input.{input_of, stream_of}
-use Rattle.tta_ports.specs.Store.{Store}
-use Rattle.tta_ports.specs.World.{World, IsUntouched}
-use Rattle.tta_ports.specs.Output.{Output, IsQuiet, IsPut, IsCut}
-use Rattle.tta_ops.specs.Units.{Units}
+use Rattle.tta_endings.specs.Cited.{input_of, stream_of, Store, World, IsUntouched, Output, IsQuiet, IsPut, IsCut, Units, program_at, Status, HasText, ReadFailed, IsBadMachine, IsProgramFor, IsBadProgram, IsOutside, OfPair, HasThree, OfRun, OfNamed, RunFault, Execs}
 use Rattle.tta_program.specs.Sequential.{State, Running, Halted, Waiting}
-use Rattle.tta_agree.specs.Agrees.{program_at}
-use Rattle.tta_given.specs.declared.status.Status.{Status}
 use Rattle.tta_given.specs.declared.status.Status.TheVariants as status
-use Rattle.tta_given.specs.Held.{HasText, ReadFailed, IsTooLong}
-use Rattle.tta_given.specs.Machines.{IsBadMachine}
-use Rattle.tta_given.specs.Programs.{IsProgramFor, IsBadProgram, IsOutside}
-use Rattle.tta_given.specs.Endings.{OfMachine, OfPair}
+use Rattle.tta_given.specs.Held.{IsTooLong}
+use Rattle.tta_given.specs.Endings.{OfMachine}
 use Rattle.tta_tool.specs.Steps.{run_text}
-use Rattle.tta_given.specs.Endings.{HasThree, OfRun, OfNamed, RunFault}
-use Rattle.tta_tool.specs.Exec.{Execs}
 
 -- files hold all that is run, and something is true of the state to which it has come
 abbrev pub HasExecuted : Units → (files : Option Store) → (M P IN : List ℕ) → (STREAM : Option (List ℕ)) → (bound : ℕ) → (Is : State → Type 0) → Type 0

@@ -1,16 +1,9 @@
 -- How the command `ifconv` ends, by its status.
 use Rattle.std.specs.Prelude.{◌≡◌, ◌↔◌, ℕ, List, Option}
-use Rattle.tta_ports.specs.Store.{Store}
-use Rattle.tta_ports.specs.World.{World, IsUntouched}
-use Rattle.tta_ops.specs.Units.{Units}
+use Rattle.tta_endings.specs.Cited.{Store, World, IsUntouched, Units, ProgramText, Status, HasText, Held, ReadFailed, IsBadProgram, IsWritten, WriteFailed, IsConvertedText, WritesConverted}
 use Rattle.tta_program.specs.Program.{Program}
-use Rattle.tta_tac.specs.Text.{ProgramText}
-use Rattle.tta_given.specs.declared.status.Status.{Status}
 use Rattle.tta_given.specs.declared.status.Status.TheVariants as status
-use Rattle.tta_given.specs.Held.{HasText, Held, ReadFailed, IsTooLong}
-use Rattle.tta_given.specs.Programs.{IsBadProgram}
-use Rattle.tta_given.specs.Ends.{IsWritten, WriteFailed}
-use Rattle.tta_tool.specs.Ifconv.{IsConvertedText, WritesConverted}
+use Rattle.tta_given.specs.Held.{IsTooLong}
 
 -- a file holds a program of which something is true
 abbrev pub OfProgram : Units → (files : Option Store) → (P : List ℕ) → (Is : Program → Type 0) → Type 0

@@ -1,3 +1,4 @@
+pub mod Cited
 pub mod Asm
 pub mod Build
 pub mod BuildConverted

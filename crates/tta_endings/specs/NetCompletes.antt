@@ -1,20 +1,8 @@
 -- Which nets `net` takes without fail.
 use Rattle.std.specs.Prelude.{◌≡◌, ◌⊎◌, ℕ, false, List, length, Option, Some, None}
 use Rattle.tta_ports.specs.declared.fault.Fault.{Fault}
-use Rattle.tta_ports.specs.Store.{Store}
-use Rattle.tta_ports.specs.World.{World}
-use Rattle.tta_ports.specs.Output.{Output}
-use Rattle.tta_ops.specs.Units.{Units}
-use Rattle.tta_cores.specs.Network.{joined}
-use Rattle.tta_cores.specs.Cluster.{cycles, first_states}
-use Rattle.tta_net.specs.declared.turn.Turn.{Turn}
-use Rattle.tta_net.specs.Clusters.{fault_at}
-use Rattle.tta_net.specs.Rounds.{HasEnded}
-use Rattle.tta_given.specs.declared.status.Status.{Status}
+use Rattle.tta_endings.specs.Cited.{Store, World, Output, Units, joined, cycles, first_states, Turn, fault_at, HasEnded, Status, Held, AreLinks, cores_in, HasCores, first_fault, Nets}
 use Rattle.tta_given.specs.declared.status.Status.TheVariants as status
-use Rattle.tta_given.specs.Held.{Held}
-use Rattle.tta_network.specs.CoreFiles.{AreLinks, cores_in, HasCores}
-use Rattle.tta_network.specs.Net.{first_fault, Nets}
 use Rattle.tta_endings.specs.Completes.{showing}
 use Rattle.tta_endings.specs.PutCompletes.{IsUndisturbed}
 

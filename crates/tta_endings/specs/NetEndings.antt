@@ -1,30 +1,10 @@
 -- What holds where the command `net` ends with a status, for each status.
 use Rattle.std.specs.Prelude.{◌≡◌, ◌↔◌, ◌⊎◌, ℕ, ◌<◌, Bool, true, false, List, length, Option, None, Some, Err}
-use Rattle.tta_ports.specs.Store.{Store}
-use Rattle.tta_ports.specs.World.{World, IsUntouched}
-use Rattle.tta_ports.specs.Output.{Output, IsQuiet, IsPut, IsCut}
-use Rattle.tta_input.specs.Input.{input_of}
-use Rattle.tta_ops.specs.Units.{Units}
+use Rattle.tta_endings.specs.Cited.{Store, World, IsUntouched, Output, IsQuiet, IsPut, IsCut, input_of, Units, Refused, decoded_image, Core, Network, Joined, joined, AreAtRest, cycles, first_states, Feeds, links_of, Turn, fault_at, HasEnded, Status, HasText, Held, ReadFailed, IsBadMachine, HasMachine, IsImageFor, HasPair, OfPair, AreLinks, cores_in, name_of, word_of, HasCores, net_text, first_fault, Nets}
 use Rattle.tta_code.specs.Cycle.{State}
-use Rattle.tta_image.specs.declared.refusal.ImageError.TheVariants.{Refused}
-use Rattle.tta_image.specs.Reading.{decoded_image}
-use Rattle.tta_cores.specs.declared.cores.Core.{Core}
-use Rattle.tta_cores.specs.Network.{Network, Joined, joined, AreAtRest}
-use Rattle.tta_cores.specs.Cluster.{cycles, first_states}
-use Rattle.tta_links.specs.Links.{Feeds}
-use Rattle.tta_links.specs.Text.{links_of}
-use Rattle.tta_net.specs.declared.turn.Turn.{Turn}
-use Rattle.tta_net.specs.Clusters.{fault_at}
-use Rattle.tta_net.specs.Rounds.{HasEnded}
-use Rattle.tta_given.specs.declared.status.Status.{Status}
 use Rattle.tta_given.specs.declared.status.Status.TheVariants as status
-use Rattle.tta_given.specs.Held.{HasText, Held, ReadFailed, IsTooLong}
-use Rattle.tta_given.specs.Machines.{IsBadMachine, HasMachine}
-use Rattle.tta_given.specs.Images.{IsImageFor}
-use Rattle.tta_given.specs.Pairs.{HasPair}
-use Rattle.tta_given.specs.Endings.{OfMachine, OfPair}
-use Rattle.tta_network.specs.CoreFiles.{AreLinks, cores_in, name_of, word_of, HasCores}
-use Rattle.tta_network.specs.Net.{net_text, first_fault, Nets}
+use Rattle.tta_given.specs.Held.{IsTooLong}
+use Rattle.tta_given.specs.Endings.{OfMachine}
 
 -- ---- what is run
 

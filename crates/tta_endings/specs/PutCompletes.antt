@@ -1,35 +1,15 @@
 -- What `check`, `exec`, `run`, `debug` and `sample` take without fail. Each of them puts a text to the output.
 use Rattle.std.specs.Prelude.{◌≡◌, ◌⊎◌, ℕ, false, List, Option, Some}
 use Rattle.tta_ports.specs.declared.fault.Fault.{Fault}
-use Rattle.tta_ports.specs.Store.{Store}
-use Rattle.tta_ports.specs.Faults.{Rose}
-use Rattle.tta_ports.specs.World.{World}
-use Rattle.tta_ports.specs.Output.{Output}
-use Rattle.tta_ops.specs.Units.{Units}
-use Rattle.tta_arch.specs.Machine.{Machine}
+use Rattle.tta_endings.specs.Cited.{Store, Rose, World, Output, Units, Machine, sample_text, IsUnsafe, IsRoomy, IsAccepted, LacksRoom, is_fault, Status, HasMachine, IsImageFor, IsProgramIn, HasPair, ChecksCode, Execs, Runs, Debugs, step_bound, program_after, Samples}
 use Rattle.tta_program.specs.Program.{Program}
 use Rattle.tta_program.specs.Sequential as sequential
-use Rattle.tta_sample.specs.Sample.{sample_text}
 use Rattle.tta_code.specs.declared.code.Code.{Code}
 use Rattle.tta_code.specs.Cycle as cycle
-use Rattle.tta_check.specs.Verdict.{IsUnsafe}
-use Rattle.tta_build.specs.Completes.{IsRoomy}
-use Rattle.tta_build.specs.Statement.{IsAccepted, LacksRoom}
-use Rattle.tta_sim.specs.Held.{is_fault}
-use Rattle.tta_given.specs.declared.status.Status.{Status}
 use Rattle.tta_given.specs.declared.status.Status.TheVariants as status
-use Rattle.tta_given.specs.Machines.{HasMachine}
-use Rattle.tta_given.specs.Images.{IsImageFor}
-use Rattle.tta_given.specs.Programs.{IsProgramIn}
-use Rattle.tta_given.specs.Pairs.{HasPair}
-use Rattle.tta_tool.specs.Check.{ChecksCode}
-use Rattle.tta_tool.specs.Exec.{Execs}
 use Rattle.tta_endings.specs.Exec.{HasExecuted}
-use Rattle.tta_tool.specs.Run.{Runs}
 use Rattle.tta_endings.specs.Run.{HasCycled}
-use Rattle.tta_tool.specs.Debug.{Debugs}
 use Rattle.tta_endings.specs.Debug.{HasSession}
-use Rattle.tta_tool.specs.Sample.{step_bound, program_after, Samples}
 use Rattle.tta_endings.specs.Completes.{showing}
 use Rattle.tta_endings.specs.WriteCompletes.{IsFull}
 

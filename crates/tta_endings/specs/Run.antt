@@ -1,23 +1,11 @@
 -- How the command `run` ends, by its status.
 use Rattle.std.specs.Prelude.{◌≡◌, ◌↔◌, ℕ, List, Option, Err}
-use Rattle.tta_input.specs.Input.{input_of, stream_of}
-use Rattle.tta_ports.specs.Store.{Store}
-use Rattle.tta_ports.specs.World.{World, IsUntouched}
-use Rattle.tta_ports.specs.Output.{Output, IsQuiet, IsPut, IsCut}
-use Rattle.tta_ops.specs.Units.{Units}
+use Rattle.tta_endings.specs.Cited.{input_of, stream_of, Store, World, IsUntouched, Output, IsQuiet, IsPut, IsCut, Units, Refused, decoded_image, code_at, Status, HasText, ReadFailed, IsBadMachine, IsImageFor, OfPair, HasThree, OfRun, OfNamed, RunFault, Runs}
 use Rattle.tta_code.specs.Cycle.{State, Running, Halted, Waiting, Fault}
-use Rattle.tta_image.specs.declared.refusal.ImageError.TheVariants.{Refused}
-use Rattle.tta_image.specs.Reading.{decoded_image}
-use Rattle.tta_agree.specs.Agrees.{code_at}
-use Rattle.tta_given.specs.declared.status.Status.{Status}
 use Rattle.tta_given.specs.declared.status.Status.TheVariants as status
-use Rattle.tta_given.specs.Held.{HasText, ReadFailed, IsTooLong}
-use Rattle.tta_given.specs.Machines.{IsBadMachine}
-use Rattle.tta_given.specs.Images.{IsImageFor}
-use Rattle.tta_given.specs.Endings.{OfMachine, OfPair}
+use Rattle.tta_given.specs.Held.{IsTooLong}
+use Rattle.tta_given.specs.Endings.{OfMachine}
 use Rattle.tta_tool.specs.Cycles.{run_text}
-use Rattle.tta_given.specs.Endings.{HasThree, OfRun, OfNamed, RunFault}
-use Rattle.tta_tool.specs.Run.{Runs}
 
 -- files hold all that is run, and something is true of the state to which it has come
 abbrev pub HasCycled : Units → (files : Option Store) → (M IMG IN : List ℕ) → (STREAM : Option (List ℕ)) → (bound : ℕ) → (Is : State → Type 0) → Type 0

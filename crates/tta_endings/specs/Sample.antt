@@ -1,23 +1,12 @@
 -- How the command `sample` ends, by its status.
 use Rattle.std.specs.Prelude.{◌≡◌, ◌↔◌, ℕ, List, Option}
-use Rattle.tta_ports.specs.Store.{Store}
-use Rattle.tta_ports.specs.World.{World, IsUntouched}
-use Rattle.tta_ports.specs.Output.{Output, IsQuiet, IsPut, IsCut}
-use Rattle.tta_ops.specs.Units.{Units}
-use Rattle.tta_arch.specs.Machine.{Machine}
+use Rattle.tta_endings.specs.Cited.{Store, World, IsUntouched, Output, IsQuiet, IsPut, IsCut, Units, Machine, sample_text, Whole, IsBuilt, HasCause, Status, HasText, ReadFailed, IsBadMachine, IsProgramIn, IsBadProgram, IsOutside, CodeCompared, Samples, program_after, step_bound}
 use Rattle.tta_program.specs.Program.{Program}
 use Rattle.tta_program.specs.Sequential as program
-use Rattle.tta_sample.specs.Sample.{sample_text}
-use Rattle.tta_code.specs.Whole.{Whole}
 use Rattle.tta_build.specs.declared.error.BuildError.TheVariants as cause
-use Rattle.tta_build.specs.Statement.{IsBuilt, HasCause}
-use Rattle.tta_given.specs.declared.status.Status.{Status}
 use Rattle.tta_given.specs.declared.status.Status.TheVariants as status
-use Rattle.tta_given.specs.Held.{HasText, ReadFailed, IsTooLong}
-use Rattle.tta_given.specs.Machines.{IsBadMachine}
-use Rattle.tta_given.specs.Programs.{IsProgramIn, IsBadProgram, IsOutside}
+use Rattle.tta_given.specs.Held.{IsTooLong}
 use Rattle.tta_given.specs.Endings.{OfMachine}
-use Rattle.tta_tool.specs.Sample.{CodeCompared, Samples, program_after, step_bound}
 
 -- a file holds a machine, the sample's text is that of a program for it, and something is true of the two
 abbrev pub OfSample : Units → (seed lines : ℕ) → (files : Option Store) → (M : List ℕ) → (Is : Machine → Program → Type 0) → Type 0

@@ -1,12 +1,7 @@
 -- The program of a sample halts within its bound: so `sample` never ends because its program goes on or waits.
 use Rattle.std.specs.Prelude.{◌≢◌, ◌<◌, ◌^◌, ℕ, List}
-use Rattle.tta_ports.specs.World.{World}
-use Rattle.tta_ports.specs.Output.{Output}
-use Rattle.tta_ops.specs.Units.{Units}
-use Rattle.tta_given.specs.declared.status.Status.{Status}
+use Rattle.tta_endings.specs.Cited.{World, Output, Units, Status, Samples, CountsRounds}
 use Rattle.tta_given.specs.declared.status.Status.TheVariants as status
-use Rattle.tta_tool.specs.Sample.{Samples}
-use Rattle.tta_halting.specs.Statement.{CountsRounds}
 
 -- with units whose `sub` and `eq` are the standard ones
 abbrev pub SampleHalts : Type 0

@@ -1,32 +1,10 @@
 -- What the commands for designers take without fail: those that show a machine, code, a run, the stages of a program, and `prompt`.
 use Rattle.std.specs.Prelude.{◌≡◌, ◌⊎◌, ℕ, List, Option, Some, None}
 use Rattle.tta_ports.specs.declared.fault.Fault.{Fault}
-use Rattle.tta_ports.specs.Store.{Store}
-use Rattle.tta_ports.specs.Faults.{Rose}
-use Rattle.tta_ports.specs.World.{World}
-use Rattle.tta_ports.specs.Output.{Output}
-use Rattle.tta_lines.specs.Come.{Come}
-use Rattle.tta_ops.specs.Units.{Units}
-use Rattle.tta_arch.specs.Machine.{Machine}
-use Rattle.tta_build.specs.Statement.{IsAccepted, LacksRoom}
-use Rattle.tta_given.specs.declared.status.Status.{Status}
+use Rattle.tta_endings.specs.Cited.{Store, Rose, World, Output, Come, Units, Machine, IsAccepted, LacksRoom, Status, HasMachine, IsImageFor, HasPair, HasGiven, View, RunView, Subject, IsSubject, OfInfo, Ends, ShowsPicture, ShowsRun, StagesView, ShowsStages, OpensPrompt}
 use Rattle.tta_given.specs.declared.status.Status.TheVariants as status
-use Rattle.tta_given.specs.Machines.{HasMachine}
-use Rattle.tta_given.specs.Images.{IsImageFor}
-use Rattle.tta_given.specs.Pairs.{HasPair}
-use Rattle.tta_given.specs.Runs.{HasGiven}
-use Rattle.tta_designer.specs.declared.view.View.{View}
-use Rattle.tta_designer.specs.declared.view.RunView.{RunView}
-use Rattle.tta_designer.specs.declared.subject.Subject.{Subject}
 use Rattle.tta_designer.specs.declared.subject.Subject.TheVariants.{Code, Program}
-use Rattle.tta_designer.specs.Subjects.{IsSubject}
-use Rattle.tta_designer.specs.Request.{OfMachine, OfInfo}
-use Rattle.tta_designer.specs.Command.{Ends}
-use Rattle.tta_designer.specs.Pictures.{ShowsPicture}
-use Rattle.tta_designer.specs.Runs.{ShowsRun}
-use Rattle.tta_designer.specs.declared.view.StagesView.{StagesView}
-use Rattle.tta_designer.specs.Stages.{ShowsStages}
-use Rattle.tta_designer.specs.Prompts.{OpensPrompt}
+use Rattle.tta_designer.specs.Request.{OfMachine}
 use Rattle.tta_endings.specs.Completes.{showing, HasRoomyPair}
 use Rattle.tta_endings.specs.WriteCompletes.{HasAcceptedPair, IsFull}
 use Rattle.tta_endings.specs.PutCompletes.{IsUndisturbed}

@@ -1,22 +1,8 @@
 -- What `asm`, `dis` and `build` take without fail. Each of them writes a file.
 use Rattle.std.specs.Prelude.{◌≡◌, ◌⊎◌, ℕ, List, Option, Some}
 use Rattle.tta_ports.specs.declared.fault.Fault.{Fault}
-use Rattle.tta_ports.specs.Store.{Store}
-use Rattle.tta_ports.specs.Faults.{Rose}
-use Rattle.tta_ports.specs.World.{World}
-use Rattle.tta_ops.specs.Units.{Units}
-use Rattle.tta_build.specs.Statement.{IsAccepted, LacksRoom}
-use Rattle.tta_build.specs.Converted.{LacksConvertedRoom}
-use Rattle.tta_given.specs.declared.status.Status.{Status}
+use Rattle.tta_endings.specs.Cited.{Store, Rose, World, Units, IsAccepted, LacksRoom, LacksConvertedRoom, Status, IsAssemblyFor, IsImageFor, IsProgramFor, HasPair, Assembles, Shows, Builds, BuildsConverted}
 use Rattle.tta_given.specs.declared.status.Status.TheVariants as status
-use Rattle.tta_given.specs.Assemblies.{IsAssemblyFor}
-use Rattle.tta_given.specs.Images.{IsImageFor}
-use Rattle.tta_given.specs.Programs.{IsProgramFor}
-use Rattle.tta_given.specs.Pairs.{HasPair}
-use Rattle.tta_tool.specs.Asm.{Assembles}
-use Rattle.tta_tool.specs.Dis.{Shows}
-use Rattle.tta_tool.specs.Build.{Builds}
-use Rattle.tta_tool.specs.BuildConverted.{BuildsConverted}
 use Rattle.tta_endings.specs.Completes.{showing}
 
 -- `asm` of a machine and assembly for it, where no call on the files fails, writes the image or is out of memory, and ends in no

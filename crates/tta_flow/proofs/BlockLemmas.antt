@@ -6,11 +6,7 @@ use Rattle.std.proofs.lemmas.Option.{slice_get_within, slice_get_read}
 use Rattle.std.proofs.lemmas.Bool.{eqb-true, or_cases, ltb-true}
 use Rattle.tta_list.proofs.Tests.{and_left, and_right, some_same}
 use Rattle.tta_list.proofs.Lists.{list_all_one, all_one, slice_get-longer, slice_get-back}
-use Rattle.tta_program.specs.declared.step.Step.{Step}
-use Rattle.tta_program.specs.declared.step.Step.TheVariants.{If, Goto, End}
-use Rattle.tta_program.specs.declared.program.Proc.{Proc}
-use Rattle.tta_program.specs.Program.{Program}
-use Rattle.tta_program.specs.Rules.{is_step, is_src, ends_once, IsProc, IsProgram}
+use Rattle.tta_flow.specs.Cited.{Step, If, Goto, End, Proc, Program, is_step, is_src, ends_once, IsProc, IsProgram}
 use Rattle.tta_flow.specs.declared.flow.Block.{Block}
 use Rattle.tta_flow.specs.Steps.{falls, target, follows, leads, branches}
 use Rattle.tta_flow.specs.Paths.{Reached, Begin, Onward, IsClosed}

@@ -5,7 +5,7 @@ use Rattle.std.specs.Option.{option_map_or}
 use Rattle.std.proofs.lemmas.Bool.{eqb-true, eq-eqb, or_cases}
 use Rattle.std.proofs.Math.Bool.{or-true}
 use Rattle.tta_list.proofs.Tests.{and_left, and_right}
-use Rattle.tta_program.specs.declared.step.Step.{Step}
+use Rattle.tta_flow.specs.Cited.{Step}
 use Rattle.tta_flow.specs.Steps.{cuts, cuts_at, target, branches}
 use Rattle.tta_flow.specs.Paths.{Reached}
 use Rattle.tta_flow.specs.Blocks.{IsFirst, AtBegin, Named, After}

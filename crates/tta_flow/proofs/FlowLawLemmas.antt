@@ -6,10 +6,7 @@ use Rattle.std.proofs.lemmas.Bool.{eq-eqb}
 use Rattle.std.proofs.lemmas.Option.{slice_get_within}
 use Rattle.tta_list.proofs.Lists.{some_within}
 use Rattle.tta_list.proofs.Tests.{some_same}
-use Rattle.tta_program.specs.declared.step.Step.{Step}
-use Rattle.tta_program.specs.declared.step.Step.TheVariants.{If, Goto}
-use Rattle.tta_program.specs.declared.program.Proc.{Proc}
-use Rattle.tta_program.specs.Program.{Program}
+use Rattle.tta_flow.specs.Cited.{Step, If, Goto, Proc, Program}
 use Rattle.tta_flow.specs.declared.flow.Block.{Block}
 use Rattle.tta_flow.specs.Steps.{falls, target, cuts, cuts_at, follows, leads, branches}
 use Rattle.tta_flow.specs.Paths.{Reached, Begin, Onward}

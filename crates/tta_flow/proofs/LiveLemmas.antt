@@ -7,9 +7,7 @@ use Rattle.std.proofs.lemmas.Option.{slice_get-map, slice_get_read, slice_get_wi
 use Rattle.std.proofs.Math.Bool.{or-true}
 use Rattle.tta_list.proofs.Tests.{and_left, and_right, some_same}
 use Rattle.tta_list.proofs.Lists.{slice_get-longer, slice_get-back}
-use Rattle.tta_program.specs.declared.step.Step.{Step}
-use Rattle.tta_program.specs.declared.program.Proc.{Proc}
-use Rattle.tta_program.specs.Program.{Program}
+use Rattle.tta_flow.specs.Cited.{Step, Proc, Program}
 use Rattle.tta_flow.specs.declared.live.Live.{Live}
 use Rattle.tta_flow.specs.declared.live.LiveProc.{LiveProc}
 use Rattle.tta_flow.specs.Steps.{falls, target, follows, branches}

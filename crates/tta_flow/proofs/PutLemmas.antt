@@ -8,7 +8,7 @@ use Rattle.std.proofs.lemmas.List.{length-set, take_all}
 use Rattle.std.proofs.lemmas.List.Folds.{list_any_more, list_any_at}
 use Rattle.std.proofs.Math.Bool.{or-false, and-true}
 use Rattle.tta_list.proofs.Lists.{some_within}
-use Rattle.tta_program.specs.declared.step.Step.{Step}
+use Rattle.tta_flow.specs.Cited.{Step}
 use Rattle.tta_flow.specs.declared.bits.BitRow.{BitRow}
 use Rattle.tta_flow.specs.declared.settle.Settling.{Settling}
 use Rattle.tta_flow.specs.Bits.{has}

@@ -6,7 +6,7 @@ use Rattle.std.proofs.lemmas.Bool.{cases_eq, eq-eqb, ltb-true, ltb-false}
 use Rattle.std.proofs.lemmas.Option.{slice_get_within}
 use Rattle.std.proofs.Math.Bool.{or-true}
 use Rattle.tta_list.proofs.Lists.{some_within}
-use Rattle.tta_program.specs.declared.step.Step.{Step}
+use Rattle.tta_flow.specs.Cited.{Step}
 use Rattle.tta_flow.specs.declared.bits.BitRow.{BitRow}
 use Rattle.tta_flow.specs.declared.rows.Work.{Work}
 use Rattle.tta_flow.specs.Bits.{has}

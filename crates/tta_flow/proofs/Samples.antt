@@ -1,8 +1,6 @@
 -- Small procedures, and what the definitions make of them.
 use Rattle.std.specs.Prelude.{◌≡◌, List, [], ◌∷◌, refl, false}
-use Rattle.tta_program.specs.declared.operand.Src.TheVariants.{Var, Word}
-use Rattle.tta_program.specs.declared.step.Step.{Step}
-use Rattle.tta_program.specs.declared.step.Step.TheVariants.{Copy, Put, Goto, End}
+use Rattle.tta_flow.specs.Cited.{Var, Word, Step, Copy, Put, Goto, End}
 use Rattle.tta_flow.specs.Steps.{leads}
 use Rattle.tta_flow.specs.Paths.{Reached, Begin, Onward, LiveBefore, ReadHere, ReadLater, LiveAfter}
 

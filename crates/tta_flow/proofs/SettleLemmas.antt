@@ -5,7 +5,7 @@ use Rattle.std.specs.Option.{option_map_or}
 use Rattle.std.proofs.lemmas.Bool.{cases_eq, or_cases, eqb-true}
 use Rattle.std.proofs.Math.Bool.{or-true}
 use Rattle.tta_list.proofs.Tests.{and_left, and_right}
-use Rattle.tta_program.specs.declared.step.Step.{Step}
+use Rattle.tta_flow.specs.Cited.{Step}
 use Rattle.tta_flow.specs.declared.bits.BitRow.{BitRow}
 use Rattle.tta_flow.specs.declared.rows.Work.{Work}
 use Rattle.tta_flow.specs.declared.settle.Settling.{Settling}

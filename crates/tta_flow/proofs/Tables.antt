@@ -13,7 +13,7 @@ use Rattle.tta_flow.specs.declared.table.PlaceLists.{PlaceLists}
 use Rattle.std.specs.List.{list_any}
 use Rattle.std.proofs.lemmas.List.{take_all}
 use Rattle.std.proofs.lemmas.List.Folds.{list_any_more}
-use Rattle.tta_program.specs.declared.operand.Src.{Src}
+use Rattle.tta_flow.specs.Cited.{Src}
 use Rattle.tta_flow.specs.Steps.{is_var}
 use Rattle.tta_flow.specs.Search.{is_found}
 use Rattle.tta_flow.specs.Table.{is_listed, Adds}

@@ -1,8 +1,7 @@
 -- What holds of the blocks of every program.
 use Rattle.std.specs.Prelude.{◌≡◌, ℕ, ◌+◌, ◌<◌, ◌≤◌, true, false, List, Some, slice_get}
 use Rattle.std.specs.Option.{option_map_or}
-use Rattle.tta_program.specs.declared.program.Proc.{Proc}
-use Rattle.tta_program.specs.Program.{Program}
+use Rattle.tta_flow.specs.Cited.{Proc, Program}
 use Rattle.tta_flow.specs.declared.flow.Block.{Block}
 use Rattle.tta_flow.specs.Steps.{falls, cuts_at, leads}
 use Rattle.tta_flow.specs.Blocks.{Holds}

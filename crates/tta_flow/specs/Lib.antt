@@ -1,3 +1,4 @@
+pub mod Cited
 pub mod Steps
 pub mod Paths
 pub mod Blocks

@@ -1,9 +1,7 @@
 -- Which variables are live where, as it is kept in rows.
 use Rattle.std.specs.Prelude.{◌≡◌, ◌↔◌, ℕ, ◌+◌, ◌<◌, Bool, true, false, ◌&&◌, if◌then◌else◌, List, Some, map, slice_get}
 use Rattle.std.specs.Option.{option_map_or}
-use Rattle.tta_program.specs.declared.step.Step.{Step}
-use Rattle.tta_program.specs.declared.program.Proc.{Proc}
-use Rattle.tta_program.specs.Program.{Program}
+use Rattle.tta_flow.specs.Cited.{Step, Proc, Program}
 use Rattle.tta_flow.specs.declared.bits.BitRow.{BitRow}
 use Rattle.tta_flow.specs.declared.live.Live.{Live}
 use Rattle.tta_flow.specs.declared.live.LiveProc.{LiveProc}

@@ -1,6 +1,6 @@
 -- Paths of steps: which steps a procedure comes to, and which variables are read later on.
 use Rattle.std.specs.Prelude.{◌≡◌, ℕ, ◌<◌, true, false, List, length}
-use Rattle.tta_program.specs.declared.step.Step.{Step}
+use Rattle.tta_flow.specs.Cited.{Step}
 use Rattle.tta_flow.specs.Steps.{reads_at, assigns_at, leads}
 
 -- a path leads from a procedure's first step to this one

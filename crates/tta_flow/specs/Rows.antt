@@ -1,7 +1,7 @@
 -- For each step the variables that are live before it, while they are found.
 use Rattle.std.specs.Prelude.{◌≡◌, ℕ, ◌+◌, ◌<◌, ◌/◌, Bool, true, false, not, ◌&&◌, ◌||◌, List, Some, length, slice_get, ◌⊎◌, ◌≢◌}
 use Rattle.std.specs.Option.{option_map_or}
-use Rattle.tta_program.specs.declared.step.Step.{Step}
+use Rattle.tta_flow.specs.Cited.{Step}
 use Rattle.tta_flow.specs.declared.bits.BitRow.{BitRow}
 use Rattle.tta_flow.specs.declared.rows.Work.{Work}
 use Rattle.tta_flow.specs.declared.table.PlaceLists.{PlaceLists}

@@ -1,7 +1,7 @@
 -- Variables that are carried backward, along the edges, from the steps before which they are live.
 use Rattle.std.specs.Prelude.{◌≡◌, ℕ, ◌+◌, ◌-◌, ◌<◌, ◌≤◌, ◌/◌, ◌==◌, Bool, true, false, not, ◌&&◌, ◌||◌, List, [], length, slice_get, ◌⊎◌}
 use Rattle.std.specs.Option.{option_map_or}
-use Rattle.tta_program.specs.declared.step.Step.{Step}
+use Rattle.tta_flow.specs.Cited.{Step}
 use Rattle.tta_flow.specs.declared.bits.BitRow.{BitRow}
 use Rattle.tta_flow.specs.declared.settle.Settling.{Settling}
 use Rattle.tta_flow.specs.Paths.{LiveBefore}

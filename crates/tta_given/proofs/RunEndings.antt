@@ -1,8 +1,6 @@
 -- A run that was begun on what was read, and what became of it, is how the command ends.
 use Rattle.std.proofs.Common.{ℕ, List, Option, inr}
-use Rattle.tta_ports.specs.World.{World}
-use Rattle.tta_ports.specs.Output.{Output}
-use Rattle.tta_ops.specs.Units.{Units}
+use Rattle.tta_given.specs.Cited.{World, Output, Units}
 use Rattle.tta_given.specs.declared.machine.MachineFile.{MachineFile}
 use Rattle.tta_given.specs.declared.status.Status.{Status}
 use Rattle.tta_given.specs.Inputs.{ReadsGiven}

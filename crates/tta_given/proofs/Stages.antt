@@ -1,9 +1,6 @@
 -- What a clause of stages says at a status is what the one stage says that can end so.
 use Rattle.std.proofs.Common.{◌≡◌, ℕ, List, Option, inl, inr}
-use Rattle.tta_ports.specs.Store.{Store}
-use Rattle.tta_ports.specs.World.{World, IsUntouched}
-use Rattle.tta_ports.specs.Output.{Output, IsQuiet}
-use Rattle.tta_ops.specs.Units.{Units}
+use Rattle.tta_given.specs.Cited.{Store, World, IsUntouched, Output, IsQuiet, Units}
 use Rattle.tta_given.specs.declared.machine.MachineFile.{MachineFile}
 use Rattle.tta_given.specs.declared.status.Status.{Status}
 use Rattle.tta_given.specs.Held.{HasText, ReadFails}

@@ -1,8 +1,7 @@
 -- Words of the endings by status: a command has a relation `..Endings` beside its clause, which says of each status alone what holds where
 -- the command ends so, and a law by which it says what the clause does.
 use Rattle.std.specs.Prelude.{◌≡◌, ◌⊎◌, ℕ, List, Option, Some, None}
-use Rattle.tta_ports.specs.Store.{Store}
-use Rattle.tta_ops.specs.Units.{Units}
+use Rattle.tta_given.specs.Cited.{Store, Units}
 use Rattle.tta_given.specs.declared.machine.MachineFile.{MachineFile}
 use Rattle.tta_given.specs.Machines.{HasMachine}
 use Rattle.tta_given.specs.Inputs.{HasInput}

@@ -1,11 +1,6 @@
 -- How a command ends: its words are none, or what it has made of two files is written to a file, or put to the output.
 use Rattle.std.specs.Prelude.{◌≡◌, ◌⊎◌, ℕ, List, Some, Result, Ok, Err}
-use Rattle.tta_ops.specs.Units.{Units}
-use Rattle.tta_ports.specs.declared.fault.Fault.TheVariants.{Write}
-use Rattle.tta_ports.specs.Faults.{Rose}
-use Rattle.tta_ports.specs.Files.{written, IsPartlyWritten}
-use Rattle.tta_ports.specs.World.{World, IsUntouched}
-use Rattle.tta_ports.specs.Output.{Output, IsQuiet, IsPut, IsCut}
+use Rattle.tta_given.specs.Cited.{Units, Write, Rose, written, IsPartlyWritten, World, IsUntouched, Output, IsQuiet, IsPut, IsCut}
 use Rattle.tta_given.specs.declared.machine.MachineFile.{MachineFile}
 use Rattle.tta_given.specs.declared.status.Status.{Status}
 use Rattle.tta_given.specs.declared.status.Status.TheVariants as status

@@ -1,11 +1,7 @@
 -- How a command that runs something ends: word 1 names a machine, word 2 what is run, word 3 the words of the machine's data
 -- space, and word 5, where it is there, those of the input.
 use Rattle.std.specs.Prelude.{◌⊎◌, ◌^◌, ℕ, List, Option}
-use Rattle.tta_ports.specs.Store.{Store}
-use Rattle.tta_ports.specs.World.{World, IsUntouched}
-use Rattle.tta_ports.specs.Output.{Output, IsQuiet}
-use Rattle.tta_ops.specs.Units.{Units}
-use Rattle.tta_text.specs.Numbers.{digits_of}
+use Rattle.tta_given.specs.Cited.{Store, World, IsUntouched, Output, IsQuiet, Units, digits_of}
 use Rattle.tta_given.specs.declared.machine.MachineFile.{MachineFile}
 use Rattle.tta_given.specs.declared.status.Status.{Status}
 use Rattle.tta_given.specs.Inputs.{HasInput, HasStream, GivenFails}

@@ -1,6 +1,6 @@
 -- Files that hold a program, whatever machine it is for.
 use Rattle.std.specs.Prelude.{ℕ, List}
-use Rattle.tta_ops.specs.Units.{Units}
+use Rattle.tta_given.specs.Cited.{Units}
 use Rattle.tta_given.specs.declared.status.Status.{Status}
 use Rattle.tta_given.specs.declared.status.Status.TheVariants as status
 use Rattle.tta_given.specs.Programs.{IsBadProgram}

@@ -6,10 +6,7 @@ use Rattle.std.specs.List.{flat_map, AllByRecursion}
 use Rattle.std.proofs.Math.Nat.{mod-lt}
 use Rattle.std.proofs.lemmas.List.{append_assoc, append-nil}
 use Rattle.std.proofs.lemmas.List.Concat.{flat_map-append}
-use Rattle.tta_text.specs.Words.{is_name}
-use Rattle.tta_ops.specs.Reserved.{is_reserved}
-use Rattle.tta_printed.specs.Printed.{Printed, Words, Label, word, number, equals, var_name, line_text}
-use Rattle.tta_sample.specs.Sample.{next_number, kind_of, first_of, second_of, assigned_of, copied_of, constant_of, of_two, of_one, put_out, copy_constant, load, store, when, skipped, late_line, middle_line, kind_line, body, head, tail, sample_text}
+use Rattle.tta_halting.specs.Cited.{is_name, is_reserved, Printed, Words, Label, word, number, equals, var_name, line_text, next_number, kind_of, first_of, second_of, assigned_of, copied_of, constant_of, of_two, of_one, put_out, copy_constant, load, store, when, skipped, late_line, middle_line, kind_line, body, head, tail, sample_text}
 
 -- what a number draws: the lines of a sample's body, by the numbers of their variables, their constants and their labels
 pub data Drawn : Type 0 where

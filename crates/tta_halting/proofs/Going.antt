@@ -5,19 +5,9 @@ use Rattle.std.specs.Option.{option_map_or}
 use Rattle.std.proofs.lemmas.Bool.{cases_lt}
 use Rattle.std.proofs.lemmas.Bool.Decides.{nat_tests}
 use Rattle.std.proofs.lemmas.List.{get_or-set_same, get_or-set_other, length-set}
-use Rattle.tta_list.specs.Iterate.{iterate}
+use Rattle.tta_halting.specs.Cited.{iterate, OpId, Units, Src, Var, Word, Ne, Step, Copy, Apply, Load, Store, Put, Take, If, Goto, When, Invoke, Return, Halt, End, DataLine, Program, State, Frame, Running, Halted, Waiting, next, goes_through, carry_out, takes, operand, holds, step_at, seq, start}
 use Rattle.tta_list.proofs.Lists.{slice_get-back, slice_get-longer}
 use Rattle.tta_list.proofs.Iterated.{iterate-more, iterate-later}
-use Rattle.tta_ops.specs.declared.OpId.{OpId}
-use Rattle.tta_ops.specs.Units.{Units}
-use Rattle.tta_program.specs.declared.operand.Src.{Src}
-use Rattle.tta_program.specs.declared.operand.Src.TheVariants.{Var, Word}
-use Rattle.tta_program.specs.declared.operand.Rel.TheVariants.{Ne}
-use Rattle.tta_program.specs.declared.step.Step.{Step}
-use Rattle.tta_program.specs.declared.step.Step.TheVariants.{Copy, Apply, Load, Store, Put, Take, If, Goto, When, Invoke, Return, Halt, End}
-use Rattle.tta_program.specs.declared.program.DataLine.{DataLine}
-use Rattle.tta_program.specs.Program.{Program}
-use Rattle.tta_program.specs.Sequential.{State, Frame, Running, Halted, Waiting, next, goes_through, carry_out, takes, operand, holds, step_at, seq, start}
 use Rattle.tta_halting.proofs.Shape.{before, counting, shaped, IsMild, AreMild, mild_at}
 use Rattle.tta_program.proofs.Halted.{halted_stays}
 

@@ -7,29 +7,13 @@ use Rattle.std.proofs.lemmas.Bool.{not-true}
 use Rattle.std.proofs.lemmas.List.Folds.{list_all-append}
 use Rattle.tta_list.proofs.Tests.{and_left, and_right, offered}
 use Rattle.tta_list.proofs.Lists.{all_append}
-use Rattle.tta_reading.specs.Lines.{lines_of}
-use Rattle.tta_reading.specs.Names.{Declared, named_in}
+use Rattle.tta_halting.specs.Cited.{lines_of, Declared, named_in, Units, named, truth, Var, Word, Ne, Step, Proc, Program, Halted, seq, holds, UnknownLabel, Form, ProcForm, Unlinked, Plain, IfTo, Draft, vars_after, op_id, is_end, numbered, link_steps, link_proc, link_procs, Said, Block, said_from, proc_in, up_to_end, blocks, vars_said, labels_said, steps_said, step_lines, proc_said, draft_said, is_fit, IsBlock, KeepsRules, IsProgramText, sample_text}
 use Rattle.tta_reading.specs.Steps.{◌>>=◌}
 use Rattle.tta_reading.proofs.Steps.{same_ok, then-ok, some-ok}
-use Rattle.tta_ops.specs.Units.{Units, named}
 use Rattle.tta_ops.specs.Arithmetic.{arith as arithmetic}
-use Rattle.tta_ops.specs.Comparison.{truth}
-use Rattle.tta_program.specs.declared.operand.Src.TheVariants.{Var, Word}
-use Rattle.tta_program.specs.declared.operand.Rel.TheVariants.{Ne}
-use Rattle.tta_program.specs.declared.step.Step.{Step}
 use Rattle.tta_program.specs.declared.step.Step.TheVariants as step
-use Rattle.tta_program.specs.declared.program.Proc.{Proc}
-use Rattle.tta_program.specs.Program.{Program}
-use Rattle.tta_program.specs.Sequential.{Halted, seq, holds}
-use Rattle.tta_tac.specs.declared.refusal.Refusal.TheVariants.{UnknownLabel}
-use Rattle.tta_tac.specs.Forms.{Form, ProcForm}
-use Rattle.tta_tac.specs.Draft.{Unlinked, Plain, IfTo, Draft}
-use Rattle.tta_tac.specs.FirstPass.{vars_after, op_id, is_end, numbered}
-use Rattle.tta_tac.specs.SecondPass.{link_steps, link_proc, link_procs}
-use Rattle.tta_tac.specs.Grammar.{Said, Block, said_from, proc_in, up_to_end, blocks, vars_said, labels_said, steps_said, step_lines, proc_said, draft_said, is_fit, IsBlock, KeepsRules, IsProgramText}
 use Rattle.tta_tac.proofs.Described.{program_said}
 use Rattle.tta_printed.proofs.Said.{numbered_from, numbered_append}
-use Rattle.tta_sample.specs.Sample.{sample_text}
 use Rattle.tta_halting.specs.Statement.{SamplesHalt, bound_of}
 use Rattle.tta_halting.proofs.Drawn.{Drawn, Two, One, Shown, Fixed, Loaded, Stored, Chosen, Skipped, IsDrawn, IsSample, sample_is}
 use Rattle.tta_halting.proofs.SampleForms.{forms_of, before_forms, after_forms, procedure_forms, sample_forms, sample_said}

@@ -5,10 +5,7 @@ use Rattle.std.specs.Option.{option_map_or}
 use Rattle.std.specs.List.{list_any}
 use Rattle.std.specs.Str.{bytes_eq}
 use Rattle.std.proofs.lemmas.Bool.{or_parts}
-use Rattle.tta_reading.specs.Names.{named_in}
-use Rattle.tta_tac.specs.Forms.{LabelForm}
-use Rattle.tta_tac.specs.FirstPass.{has_twice}
-use Rattle.tta_tac.specs.Grammar.{Said, label_in, labels_said, label_names}
+use Rattle.tta_halting.specs.Cited.{named_in, LabelForm, has_twice, Said, label_in, labels_said, label_names}
 use Rattle.tta_printed.proofs.Names.{bytes_apart}
 use Rattle.tta_list.proofs.Lists.{same_bytes as bytes_self}
 

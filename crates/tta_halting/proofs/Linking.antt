@@ -5,21 +5,10 @@ use Rattle.std.specs.Option.{option_map_or}
 use Rattle.std.specs.Fmt.{digits}
 use Rattle.std.specs.List.{flat_map, AllByRecursion}
 use Rattle.std.proofs.lemmas.List.{append_assoc}
-use Rattle.tta_reading.specs.Names.{Declared, named_in}
+use Rattle.tta_halting.specs.Cited.{Declared, named_in, Units, Var, Word, Lt, Ltu, Step, UnknownLabel, Form, Named, Constant, LabelForm, CopyForm, ApplyForm, LoadForm, StoreForm, PutForm, IfForm, WhenForm, Unlinked, Plain, IfTo, Draft, with_var, vars_after, var_number, op_id, step_of, numbered, link_step, link_steps, label_in, steps_said, step_lines, var_name, label_name}
 use Rattle.tta_reading.specs.Steps.{◌>>=◌}
 use Rattle.tta_reading.proofs.Steps.{same_ok, then-ok, some-ok, at_line-ok}
-use Rattle.tta_ops.specs.Units.{Units}
-use Rattle.tta_program.specs.declared.operand.Src.TheVariants.{Var, Word}
-use Rattle.tta_program.specs.declared.operand.Rel.TheVariants.{Lt, Ltu}
-use Rattle.tta_program.specs.declared.step.Step.{Step}
 use Rattle.tta_program.specs.declared.step.Step.TheVariants as step
-use Rattle.tta_tac.specs.declared.refusal.Refusal.TheVariants.{UnknownLabel}
-use Rattle.tta_tac.specs.Forms.{Form, Named, Constant, LabelForm, CopyForm, ApplyForm, LoadForm, StoreForm, PutForm, IfForm, WhenForm}
-use Rattle.tta_tac.specs.Draft.{Unlinked, Plain, IfTo, Draft}
-use Rattle.tta_tac.specs.FirstPass.{with_var, vars_after, var_number, op_id, step_of, numbered}
-use Rattle.tta_tac.specs.SecondPass.{link_step, link_steps}
-use Rattle.tta_tac.specs.Grammar.{label_in, steps_said, step_lines}
-use Rattle.tta_printed.specs.Printed.{var_name, label_name}
 use Rattle.tta_printed.proofs.Said.{numbered_from}
 use Rattle.tta_halting.proofs.Drawn.{Drawn, Two, One, Shown, Fixed, Loaded, Stored, Chosen, Skipped, IsDrawn}
 use Rattle.tta_halting.proofs.SampleForms.{forms_of}

@@ -3,14 +3,7 @@ use Rattle.std.proofs.Common.{◌≡◌, ℕ, ◌+◌, false, List, [], ◌∷�
 use Rattle.std.specs.Prelude.{Some, codes}
 use Rattle.std.specs.List.{flat_map}
 use Rattle.std.proofs.lemmas.List.{append_assoc}
-use Rattle.tta_reading.specs.Names.{named_in}
-use Rattle.tta_program.specs.declared.operand.Rel.TheVariants.{Lt}
-use Rattle.tta_tac.specs.Forms.{Form, Named, Constant, LabelForm, CopyForm, ApplyForm, IfForm}
-use Rattle.tta_tac.specs.FirstPass.{has_twice}
-use Rattle.tta_tac.specs.Draft.{Draft}
-use Rattle.tta_ops.specs.Units.{Units}
-use Rattle.tta_tac.specs.Grammar.{Said, labels_said, label_names}
-use Rattle.tta_printed.specs.Printed.{var_name, label_name}
+use Rattle.tta_halting.specs.Cited.{named_in, Lt, Form, Named, Constant, LabelForm, CopyForm, ApplyForm, IfForm, has_twice, Draft, Units, Said, labels_said, label_names, var_name, label_name}
 use Rattle.tta_printed.proofs.Said.{numbered_from, numbered_append}
 use Rattle.tta_halting.proofs.Drawn.{Drawn, Two, One, Shown, Fixed, Loaded, Stored, Chosen, Skipped}
 use Rattle.tta_halting.proofs.SampleForms.{forms_of, before_forms}

@@ -4,14 +4,7 @@ use Rattle.std.specs.Prelude.{codes, decimal}
 use Rattle.std.specs.Fmt.{digits}
 use Rattle.std.specs.List.{flat_map, AllByRecursion}
 use Rattle.tta_list.proofs.Lists.{all_append}
-use Rattle.tta_text.specs.Numbers.{number_of, digits_of, value_below}
-use Rattle.tta_reading.specs.Lines.{lines_of}
-use Rattle.tta_ops.specs.Reserved.{is_reserved}
-use Rattle.tta_program.specs.declared.operand.Src.TheVariants.{Var, Word}
-use Rattle.tta_program.specs.declared.operand.Rel.TheVariants.{Ne, Lt, Ltu}
-use Rattle.tta_tac.specs.Forms.{Form, Named, Constant, ProcForm, LabelForm, CopyForm, ApplyForm, LoadForm, StoreForm, PutForm, IfForm, WhenForm, HaltForm, EndForm, form_of, proc_form, if_form, put_form, named_form, assign_form}
-use Rattle.tta_tac.specs.Grammar.{said_from}
-use Rattle.tta_printed.specs.Printed.{word, number, var_name, label_name}
+use Rattle.tta_halting.specs.Cited.{number_of, digits_of, value_below, lines_of, is_reserved, Var, Word, Ne, Lt, Ltu, Form, Named, Constant, ProcForm, LabelForm, CopyForm, ApplyForm, LoadForm, StoreForm, PutForm, IfForm, WhenForm, HaltForm, EndForm, form_of, proc_form, if_form, put_form, named_form, assign_form, said_from, word, number, var_name, label_name}
 use Rattle.tta_printed.proofs.ScannedLines.{CanBePrinted, lines_of_printed}
 use Rattle.tta_printed.proofs.Forms.{assign_read, copy_read, load_read, two_read, store_read, put_read, if_read, when_read, label_read}
 use Rattle.tta_printed.proofs.Said.{AreRead, read_append, numbered_from, said_read}

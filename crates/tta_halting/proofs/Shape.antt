@@ -1,13 +1,7 @@
 -- The shape of a sample's program: steps before the rounds, those of a round, and what counts the rounds.
 use Rattle.std.proofs.Common.{◌≡◌, ℕ, zero, suc, ◌+◌, ◌<◌, ◌≤◌, List, [], ◌∷◌, ◌++◌, length, refl, subst, arith}
 use Rattle.std.specs.Prelude.{Some, slice_get}
-use Rattle.tta_ops.specs.declared.OpId.{OpId}
-use Rattle.tta_program.specs.declared.operand.Src.TheVariants.{Var, Word}
-use Rattle.tta_program.specs.declared.operand.Rel.TheVariants.{Ne}
-use Rattle.tta_program.specs.declared.step.Step.{Step}
-use Rattle.tta_program.specs.declared.step.Step.TheVariants.{Copy, Apply, Load, Store, Put, If, When, Halt, End}
-use Rattle.tta_program.specs.declared.program.DataLine.{DataLine}
-use Rattle.tta_program.specs.Program.{Program}
+use Rattle.tta_halting.specs.Cited.{OpId, Var, Word, Ne, Step, Copy, Apply, Load, Store, Put, If, When, Halt, End, DataLine, Program}
 
 -- the steps before the rounds: eight variables and the counter get their first values
 abbrev pub before : List Step

@@ -1,12 +1,7 @@
 -- A sample's program halts within its bound of steps.
 use Rattle.std.specs.Prelude.{◌≡◌, ◌<◌, ℕ, ◌+◌, ◌*◌, ◌^◌, List, Some, codes}
-use Rattle.tta_ops.specs.Units.{Units, named}
+use Rattle.tta_halting.specs.Cited.{Units, named, compare, Program, seq, Halted, ProgramText, sample_text}
 use Rattle.tta_ops.specs.Arithmetic.{arith}
-use Rattle.tta_ops.specs.Comparison.{compare}
-use Rattle.tta_program.specs.Program.{Program}
-use Rattle.tta_program.specs.Sequential.{seq, Halted}
-use Rattle.tta_tac.specs.Text.{ProgramText}
-use Rattle.tta_sample.specs.Sample.{sample_text}
 
 -- The operations that count a sample's rounds are the standard ones: the difference of two words, and whether they are equal.
 -- No other operation matters.

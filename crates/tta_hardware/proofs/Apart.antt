@@ -5,21 +5,12 @@ use Rattle.std.specs.Option.{option_map_or}
 use Rattle.std.specs.List.{filter_map, cons_option, list_all, AllByRecursion}
 use Rattle.std.proofs.lemmas.Option.{none-some, same_Some}
 use Rattle.tta_list.proofs.Lists.{list_all_one}
-use Rattle.tta_arch.specs.declared.parts.Op.{Op}
-use Rattle.tta_arch.specs.declared.parts.Op.TheVariants.{Ldw, Stw, Ldf, Stf, Out, Take, Set}
-use Rattle.tta_arch.specs.declared.parts.UnitOp.{UnitOp}
+use Rattle.tta_hardware.specs.Cited.{Op, Ldw, Stw, Ldf, Stf, Out, Take, Set, UnitOp, Dest, Machine, IsMachine, is_unit, is_unit_op, fits_kind, are_different, Target, Reg, Imm, Control, Reads, Brought, Written, Start, target_of, moved, bring, start_of, op_at, operand_of, has_result, Move, Instruction, is_legal, effect_of, moves_of}
 use Rattle.tta_arch.specs.declared.parts.Unit.{Unit as OpUnit}
-use Rattle.tta_arch.specs.declared.ends.Dest.{Dest}
 use Rattle.tta_arch.specs.declared.ends.Dest.TheVariants as dest
-use Rattle.tta_arch.specs.Machine.{Machine}
-use Rattle.tta_arch.specs.Rules.{IsMachine, is_unit, is_unit_op, fits_kind, are_different}
 use Rattle.tta_arch.specs.Legal.{same_place}
-use Rattle.tta_arch.specs.Effects.{Target, Reg, Imm, Operand, Trigger, Control, Reads, Brought, Written, Start, target_of, moved, bring, start_of, op_at, operand_of, has_result}
+use Rattle.tta_arch.specs.Effects.{Operand, Trigger}
 use Rattle.tta_arch.proofs.Takes.{apart_filter_map}
-use Rattle.tta_code.specs.declared.code.Move.{Move}
-use Rattle.tta_code.specs.declared.code.Instruction.{Instruction}
-use Rattle.tta_code.specs.Legal.{is_legal}
-use Rattle.tta_code.specs.Cycle.{effect_of, moves_of}
 use Rattle.tta_code.proofs.LegalParts.{legal_parts}
 use Rattle.tta_code.proofs.Apart.{meet_moves, moves_apart}
 

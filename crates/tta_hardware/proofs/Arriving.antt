@@ -4,16 +4,8 @@ use Rattle.std.specs.Prelude.{is_some, if◌then◌else◌}
 use Rattle.std.specs.Option.{option_map_or}
 use Rattle.std.specs.List.{find, range_with_len}
 use Rattle.std.proofs.lemmas.Bool.{and_parts, false≢true, eq-eqb, ne_eqb}
-use Rattle.tta_ops.specs.Units.{Units}
-use Rattle.tta_arch.specs.declared.ends.Dest.{Dest}
-use Rattle.tta_arch.specs.Machine.{Machine}
-use Rattle.tta_arch.specs.Joins.{is_source_on, is_dest_on, has_guard}
-use Rattle.tta_arch.specs.Fields.{numbers, same_dest, dest_code}
+use Rattle.tta_hardware.specs.Cited.{Units, Dest, Machine, is_source_on, is_dest_on, has_guard, numbers, same_dest, dest_code, Move, Instruction, State, bit, is_set, value}
 use Rattle.tta_image.proofs.EndsLemmas.{same_dest_true, same_dest_itself, dest_code_tells}
-use Rattle.tta_code.specs.declared.code.Move.{Move}
-use Rattle.tta_code.specs.declared.code.Instruction.{Instruction}
-use Rattle.tta_code.specs.Cycle.{State}
-use Rattle.tta_circuit.specs.Meaning.{bit, is_set, value}
 use Rattle.tta_hardware.specs.Signals.{DestOf, Signal as Named, Fetched, Acts, Expression}
 use Rattle.tta_hardware.specs.Chains.{first_of}
 use Rattle.tta_hardware.specs.Fields.{slot_at}

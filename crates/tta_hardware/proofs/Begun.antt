@@ -5,11 +5,8 @@ use Rattle.std.specs.Option.{option_or}
 use Rattle.std.specs.List.{list_any, filter_map, cons_option, AllByRecursion}
 use Rattle.std.proofs.lemmas.Option.{none-some, same_Some}
 use Rattle.std.proofs.lemmas.Bool.{and_parts, or_parts, eq-eqb, ne_eqb, eqb-true, false≢true, not-true}
-use Rattle.tta_ops.specs.Units.{Units}
-use Rattle.tta_arch.specs.Rules.{are_different}
-use Rattle.tta_arch.specs.Effects.{Start, has_result, result_word, takes}
-use Rattle.tta_code.specs.Cycle.{State, Result', result_of, later}
-use Rattle.tta_sim.specs.Results.{due_at, word_due}
+use Rattle.tta_hardware.specs.Cited.{Units, are_different, Start, has_result, result_word, takes, State, Result', later, due_at, word_due}
+use Rattle.tta_code.specs.Cycle.{result_of}
 use Rattle.tta_hardware.specs.Stands.{start_in}
 
 -- ---- the results that begin

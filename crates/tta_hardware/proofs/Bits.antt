@@ -2,12 +2,7 @@
 use Rattle.std.proofs.Common.{◌≡◌, ℕ, zero, suc, ◌+◌, ◌^◌, ◌<◌, ◌≤◌, true, length, Some, arith}
 use Rattle.std.specs.List.{range_with_len, sum_by}
 use Rattle.std.proofs.lemmas.List.Sums.{sum_by-cons}
-use Rattle.tta_arch.specs.declared.ends.GuardRef.{GuardRef}
-use Rattle.tta_arch.specs.declared.ends.Dest.{Dest}
-use Rattle.tta_arch.specs.Machine.{Machine}
-use Rattle.tta_arch.specs.Rules.{IsMachine}
-use Rattle.tta_arch.specs.Joins.{is_dest_on, has_guard}
-use Rattle.tta_arch.specs.Fields.{width_for, guards_on, dests_on, guard_width, payload_width, dest_width, template_width, bus_width, word_width}
+use Rattle.tta_hardware.specs.Cited.{GuardRef, Dest, Machine, IsMachine, is_dest_on, has_guard, width_for, guards_on, dests_on, guard_width, payload_width, dest_width, template_width, bus_width, word_width}
 use Rattle.tta_arch.proofs.Widths.{width_for-enough, pow_le}
 use Rattle.tta_image.proofs.EndsLemmas.{guard_code_inside, dest_code_inside}
 use Rattle.tta_image.proofs.NarrowFields.{narrow}

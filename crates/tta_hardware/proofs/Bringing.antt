@@ -5,27 +5,13 @@ use Rattle.std.specs.Option.{option_map_or}
 use Rattle.std.specs.List.{list_any, list_all, position_or_len}
 use Rattle.std.proofs.lemmas.Option.{same_Some}
 use Rattle.std.proofs.lemmas.Bool.{and_parts, false≢true, ltb-true, lt-ltb}
-use Rattle.tta_ops.specs.Units.{Units}
-use Rattle.tta_arch.specs.declared.parts.File.{File}
-use Rattle.tta_arch.specs.declared.parts.ImmUnit.{ImmUnit}
+use Rattle.tta_hardware.specs.Cited.{Units, File, ImmUnit, Guard, GuardRef, Source, Machine, IsMachine, is_guard, joins, within, has_socket, is_same_guard, is_source_on, is_dest_on, has_guard, has_source_socket, guards_on, sources_on, same_source, source_code, guard_code, guard_width, payload_width, KeptReg, KeptImm, KeptRa, KeptPort, guard_word, passes, is_active, has_unset_guard, Move, Instruction, State, read_source, effect_of, Const, Join, bit, is_set, value}
 use Rattle.tta_arch.specs.declared.parts.Unit.{Unit as OpUnit}
-use Rattle.tta_arch.specs.declared.parts.Guard.{Guard}
-use Rattle.tta_arch.specs.declared.ends.GuardRef.{GuardRef}
-use Rattle.tta_arch.specs.declared.ends.Source.{Source}
 use Rattle.tta_arch.specs.declared.ends.Source.TheVariants as source
-use Rattle.tta_arch.specs.Machine.{Machine}
-use Rattle.tta_arch.specs.Rules.{IsMachine, is_guard}
-use Rattle.tta_arch.specs.Joins.{joins, within, has_socket, is_same_guard, is_source_on, is_dest_on, has_guard}
-use Rattle.tta_arch.specs.Layout.{has_source_socket}
-use Rattle.tta_arch.specs.Fields.{guards_on, sources_on, same_source, source_code, guard_code, guard_width, payload_width}
-use Rattle.tta_arch.specs.Effects.{KeptReg, KeptImm, KeptRa, KeptPort, guard_word, passes, is_active, has_unset_guard, width_of}
+use Rattle.tta_arch.specs.Effects.{width_of}
 use Rattle.tta_arch.proofs.Guards.{same_guard}
 use Rattle.tta_image.proofs.EndsLemmas.{same_source_true, source_kept, guard_kept}
-use Rattle.tta_code.specs.declared.code.Move.{Move}
-use Rattle.tta_code.specs.declared.code.Instruction.{Instruction}
-use Rattle.tta_code.specs.Cycle.{State, read_source, effect_of}
-use Rattle.tta_circuit.specs.Circuit.{Signal as OfSignal, Const, Join}
-use Rattle.tta_circuit.specs.Meaning.{bit, is_set, value}
+use Rattle.tta_circuit.specs.Circuit.{Signal as OfSignal}
 use Rattle.tta_hardware.specs.Signals.{GuardOf, SourceOf, ShortOf, Signal as Named, Keeps, Fetched, Word, Acts, Expression}
 use Rattle.tta_hardware.specs.Fields.{slot_at, short_mark}
 use Rattle.tta_hardware.specs.Chains.{pick_from}

@@ -5,19 +5,9 @@ use Rattle.std.specs.Option.{option_map_or}
 use Rattle.std.specs.List.{list_any, filter_map, cons_option, range_with_len}
 use Rattle.std.proofs.lemmas.Option.{none-some}
 use Rattle.std.proofs.lemmas.Bool.{and_parts, or_parts, false≢true, eqb-true}
-use Rattle.tta_ops.specs.Units.{Units}
-use Rattle.tta_arch.specs.declared.ends.Source.{Source}
+use Rattle.tta_hardware.specs.Cited.{Units, Source, Machine, joins, all_slots, Reads, Effect, is_register, is_port, is_active, bring, target_of, has_unset_guard, has_unset, Move, Instruction, ends_of, is_legal, State, read_source, effect_of, long_effects, reads_unset_register, reads_unset_port, is_set}
 use Rattle.tta_arch.specs.declared.ends.Source.TheVariants as source
-use Rattle.tta_arch.specs.Machine.{Machine}
-use Rattle.tta_arch.specs.Joins.{joins}
-use Rattle.tta_arch.specs.Legal.{all_slots}
-use Rattle.tta_arch.specs.Effects.{Reads, Effect, is_register, is_port, is_active, bring, target_of, has_unset_guard, has_unset}
-use Rattle.tta_code.specs.declared.code.Move.{Move}
-use Rattle.tta_code.specs.declared.code.Instruction.{Instruction}
-use Rattle.tta_code.specs.Legal.{ends_of, is_legal}
-use Rattle.tta_code.specs.Cycle.{State, read_source, effect_of, long_effects, reads_unset_register, reads_unset_port}
 use Rattle.tta_code.proofs.LegalParts.{legal_parts}
-use Rattle.tta_circuit.specs.Meaning.{is_set}
 use Rattle.tta_hardware.specs.Signals.{Signal as Named, Word, Acts}
 use Rattle.tta_hardware.specs.Fields.{slot_at}
 use Rattle.tta_hardware.specs.Stands.{Hardware}

@@ -3,9 +3,7 @@ use Rattle.std.proofs.Common.{◌≡◌, ℕ, Bool, true, false, not, ◌&&◌, 
 use Rattle.std.specs.Prelude.{is_some, if◌then◌else◌}
 use Rattle.std.specs.Option.{option_map_or}
 use Rattle.std.specs.List.{find}
-use Rattle.tta_ops.specs.Units.{Units}
-use Rattle.tta_circuit.specs.Circuit.{Expr}
-use Rattle.tta_circuit.specs.Meaning.{bit, is_set, value}
+use Rattle.tta_hardware.specs.Cited.{Units, Expr, bit, is_set, value}
 use Rattle.tta_hardware.specs.Chains.{any_of, first_of}
 
 -- the word of a test tells whether it holds

@@ -3,14 +3,9 @@ use Rattle.std.proofs.Common.{◌≡◌, ℕ, ◌<◌, ◌≤◌, Bool, true, fa
 use Rattle.std.specs.Prelude.{if◌then◌else◌, slice_set, slice_index}
 use Rattle.std.specs.List.{find, list_any}
 use Rattle.std.proofs.lemmas.Bool.{false≢true, not-true, and_parts, or_left}
-use Rattle.tta_ops.specs.Units.{Units}
-use Rattle.tta_arch.specs.declared.parts.Op.TheVariants.{Stw, Stf}
-use Rattle.tta_arch.specs.Machine.{Machine}
-use Rattle.tta_arch.specs.Rules.{same_op}
+use Rattle.tta_hardware.specs.Cited.{Units, Stw, Stf, Machine, same_op, bit, is_set, value, given, settled, registered, clocked, Either, Solves}
 use Rattle.tta_code.specs.declared.code.Code.{Code as Program}
-use Rattle.tta_circuit.specs.Meaning.{bit, is_set, value, given, settled, registered, clocked}
-use Rattle.tta_circuit.specs.Circuit.{Signal as OfSignal, Either}
-use Rattle.tta_circuit.specs.Laws.{Solves}
+use Rattle.tta_circuit.specs.Circuit.{Signal as OfSignal}
 use Rattle.tta_circuit.proofs.Settling.{settled_solves}
 use Rattle.tta_hardware.specs.Signals.{Store, Code, Data, Frame, Signal as Named, Pc, IsOffered, IsReady, HasHalted, Underway, Goal, Ends, Keeps, IsDue, Due, HasBegun, Raw, IsInside, Port, IsReset, Whole, Fetched, Word, Acts, Starts, Trigger, Operand, Controls, GoalNow, EndsNow, Lands, Asks, Gives, Goes, NextPc, Puts, PutWord, same_signal, same_store}
 use Rattle.tta_hardware.specs.Wires.{made_of, longest}

@@ -7,15 +7,10 @@ use Rattle.std.proofs.lemmas.Option.{none-some, same_Some}
 use Rattle.std.proofs.lemmas.Bool.{and_parts, and_from, eqb-true, ltb-true, ltb-false, le-ltb}
 use Rattle.std.proofs.lemmas.List.Folds.{find-append}
 use Rattle.std.proofs.lemmas.List.Sums.{fold-append}
-use Rattle.tta_ops.specs.Units.{Units}
-use Rattle.tta_arch.specs.declared.parts.UnitOp.{UnitOp}
-use Rattle.tta_arch.specs.Machine.{Machine}
-use Rattle.tta_arch.specs.Effects.{Start, KeptPort, has_result, result_word}
-use Rattle.tta_code.specs.Cycle.{State, Result', result_of, later}
-use Rattle.tta_sim.specs.Results.{latest, is_due, due_at, word_due}
+use Rattle.tta_hardware.specs.Cited.{Units, UnitOp, Machine, Start, KeptPort, has_result, result_word, State, Result', later, latest, is_due, due_at, word_due, is_set, value}
+use Rattle.tta_code.specs.Cycle.{result_of}
 use Rattle.tta_sim.proofs.Showing.{latest-next}
 use Rattle.tta_circuit.specs.Circuit.{Signal as OfSignal}
-use Rattle.tta_circuit.specs.Meaning.{is_set, value}
 use Rattle.tta_hardware.specs.Signals.{Signal as Named, Keeps, IsDue, Due, HasBegun, Port, Starts}
 use Rattle.tta_hardware.specs.Wires.{timed, begins, made, result_of as result_made, is_coming, coming, longest, never, nothing, is_load, loads, fresh}
 use Rattle.tta_hardware.specs.Stands.{Hardware, IsSettled, HasClocked, HasComing, HasSpaces, StartsOne, Starting, start_in, coming_in, read_in, fresh_in}

@@ -3,7 +3,7 @@ use Rattle.std.proofs.Common.{◌≡◌, ℕ, zero, suc, ◌+◌, ◌<◌, ◌�
 use Rattle.std.specs.Prelude.{nat_le, ⊤}
 use Rattle.std.specs.List.{list_any, flat_map, enumerate_from, range_with_len, AllByRecursion}
 use Rattle.std.proofs.lemmas.Bool.{and_parts, and_from, or_from, leb-true, le-leb}
-use Rattle.tta_circuit.specs.Laws.{TellsApart}
+use Rattle.tta_hardware.specs.Cited.{TellsApart}
 use Rattle.tta_circuit.specs.Closed.{are_apart}
 use Rattle.tta_hardware.proofs.WiresFit.{both_lists}
 use Rattle.tta_hardware.proofs.RegistersFit.{weaker}

@@ -3,8 +3,7 @@ use Rattle.std.proofs.Common.{◌≡◌, ℕ, zero, suc, ◌+◌, ◌-◌, ◌*�
 use Rattle.std.proofs.lemmas.Bool.{le-leb, lt-leb, cases_lt}
 use Rattle.std.proofs.lemmas.Nat.{mod_below, pow_pos, pow-add, div_below, shr_split}
 use Rattle.tta_arch.proofs.Widths.{no_high}
-use Rattle.tta_image.specs.Decoding.{short_word}
-use Rattle.tta_circuit.specs.Meaning.{is_set}
+use Rattle.tta_hardware.specs.Cited.{short_word, is_set}
 
 one_less : (q p : ℕ) → 0 < q → (q - 1) * p ≡ q * p - p
 one_less zero p h = absurd (omega arith)

@@ -2,8 +2,7 @@
 use Rattle.std.proofs.Common.{◌≡◌, ℕ, ◌==◌, Bool, true, false, List, ◌∷◌, Option, Some, None, refl, sym}
 use Rattle.std.specs.Prelude.{if◌then◌else◌}
 use Rattle.std.proofs.lemmas.Option.{none-some}
-use Rattle.tta_arch.specs.Effects.{Kind, Jumps, Calls, Halts}
-use Rattle.tta_code.specs.Cycle.{State, Pending, Running, lands, takes_effect, first_fault}
+use Rattle.tta_hardware.specs.Cited.{Kind, Jumps, Calls, Halts, State, Pending, Running, lands, takes_effect, first_fault}
 use Rattle.tta_hardware.specs.Theorem.{is_waiting}
 
 -- ---- a cycle without a fault

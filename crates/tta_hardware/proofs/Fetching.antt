@@ -4,10 +4,8 @@ use Rattle.std.specs.Prelude.{slice_index, is_some, IsTrue}
 use Rattle.std.proofs.lemmas.Option.{none-some, same_Some}
 use Rattle.std.proofs.lemmas.Nat.{mod-mul-add}
 use Rattle.tta_list.proofs.Lists.{all_one}
-use Rattle.tta_arch.specs.Machine.{Machine}
+use Rattle.tta_hardware.specs.Cited.{Machine, Instruction, is_legal, IsLegalCode}
 use Rattle.tta_code.specs.declared.code.Code.{Code as Program}
-use Rattle.tta_code.specs.declared.code.Instruction.{Instruction}
-use Rattle.tta_code.specs.Legal.{is_legal, IsLegalCode}
 use Rattle.tta_hardware.specs.Signals.{Pc, Whole}
 use Rattle.tta_hardware.specs.Fields.{word_of}
 use Rattle.tta_hardware.specs.Laws.{FetchAlike, HasFetched}

@@ -2,8 +2,7 @@
 use Rattle.std.proofs.Common.{◌≡◌, ℕ, ◌<◌, ◌≤◌, Bool, true, false, [], ◌∷◌, ◌++◌, length, refl, arith}
 use Rattle.std.specs.Prelude.{if◌then◌else◌, nat_lt}
 use Rattle.std.specs.List.{flat_map, AllByRecursion}
-use Rattle.tta_arch.specs.Machine.{Machine}
-use Rattle.tta_arch.specs.Fields.{numbers, guard_width, dest_width, template_width}
+use Rattle.tta_hardware.specs.Cited.{Machine, numbers, guard_width, dest_width, template_width}
 use Rattle.tta_hardware.specs.Signals.{Field, GuardOf, IsShort, SourceOf, ShortOf, DestOf, TemplateOf, LongOf}
 use Rattle.tta_hardware.specs.Hardware.{with_bits, bus_fields, all_fields}
 use Rattle.tta_hardware.proofs.WiresFit.{both_lists}

@@ -5,14 +5,8 @@ use Rattle.std.specs.List.{range_with_len, sum_by, AllByRecursion}
 use Rattle.std.proofs.lemmas.Bool.{and_parts, false≢true, eq-eqb, eqb-true, ltb-true, ltb-false, lt-ltb, cases_lt}
 use Rattle.std.proofs.lemmas.List.Sums.{sum_by-cons}
 use Rattle.std.proofs.lemmas.Nat.{pow_pos}
-use Rattle.tta_arch.specs.declared.parts.Template.{Template}
-use Rattle.tta_arch.specs.Machine.{Machine}
-use Rattle.tta_arch.specs.Rules.{IsMachine}
-use Rattle.tta_arch.specs.Joins.{has_bit}
-use Rattle.tta_arch.specs.Fields.{template_width, guard_width, short_width, payload_width, dest_width, bus_width, taken_width, word_width}
-use Rattle.tta_image.specs.Decoding.{is_signed}
+use Rattle.tta_hardware.specs.Cited.{Template, Machine, IsMachine, has_bit, template_width, guard_width, short_width, payload_width, dest_width, bus_width, taken_width, word_width, is_signed, Const, Signal, Slice, Join, Select, Either}
 use Rattle.tta_image.proofs.NarrowFields.{narrow}
-use Rattle.tta_circuit.specs.Circuit.{Const, Signal, Slice, Join, Select, Either}
 use Rattle.tta_hardware.specs.Signals.{Field, GuardOf, IsShort, SourceOf, ShortOf, DestOf, TemplateOf, LongOf, Whole, Expression}
 use Rattle.tta_hardware.specs.Fields.{field_width}
 use Rattle.tta_hardware.specs.Parts.{buses_width, long_width, below_bus, below_payload, below_tag, below_guard, above, template_part, has_template, takes_from, shares_from, long_from, with_high, short_part}

@@ -2,12 +2,7 @@
 use Rattle.std.proofs.Common.{◌≡◌, ℕ, zero, suc, ◌-◌, ◌^◌, Bool, true, false, List, [], ◌∷◌, length, map, refl, ap, ◌∙◌}
 use Rattle.std.specs.Prelude.{if◌then◌else◌, slice_index, slice_set}
 use Rattle.std.specs.List.{find}
-use Rattle.tta_ops.specs.Units.{Units}
-use Rattle.tta_arch.specs.declared.parts.Op.TheVariants.{Stw, Stf}
-use Rattle.tta_arch.specs.Machine.{Machine}
-use Rattle.tta_arch.specs.Rules.{same_op}
-use Rattle.tta_circuit.specs.Circuit.{WritePort}
-use Rattle.tta_circuit.specs.Meaning.{is_set, is_input, Held, value, given, settled, clocked, powered}
+use Rattle.tta_hardware.specs.Cited.{Units, Stw, Stf, Machine, same_op, WritePort, is_set, is_input, Held, value, given, settled, clocked, powered}
 use Rattle.tta_circuit.proofs.Alike.{settle_same, registered_same, written_same}
 use Rattle.tta_hardware.specs.Signals.{Store, Code, Data, Frame, Signal as Named, IsOffered, Offer, IsReady, IsReset, same_store, same_signal}
 use Rattle.tta_hardware.specs.Hardware.{register_names, wire_names, wire, store_port, circuit_with}

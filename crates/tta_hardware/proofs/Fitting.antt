@@ -3,10 +3,8 @@ use Rattle.std.proofs.Common.{◌≡◌, ℕ, ◌+◌, ◌^◌, ◌<◌, ◌≤�
 use Rattle.std.specs.Prelude.{nat_le, nat_lt}
 use Rattle.std.specs.List.{AllByRecursion}
 use Rattle.std.proofs.lemmas.Bool.{and_from, eq-eqb, lt-ltb, le-leb}
-use Rattle.tta_arch.specs.Machine.{Machine}
-use Rattle.tta_circuit.specs.Circuit.{Const, Signal, Slice, Join, Select, Not, Both, Either, Equal, Below, Plus, Read, Apply}
-use Rattle.tta_circuit.specs.Widths.{width_of, is_sized}
-use Rattle.tta_circuit.specs.Plain.{is_plain}
+use Rattle.tta_hardware.specs.Cited.{Machine, Const, Signal, Slice, Join, Select, Not, Both, Either, Equal, Below, Plus, Read, Apply, is_sized, is_plain}
+use Rattle.tta_circuit.specs.Widths.{width_of}
 use Rattle.tta_hardware.specs.Signals.{Store, Signal as Named, Expression}
 use Rattle.tta_hardware.specs.Chains.{any_of, first_of, pick_from}
 use Rattle.tta_hardware.specs.Sized.{signal_width, store_width, Fits}

@@ -4,15 +4,9 @@ use Rattle.std.specs.Prelude.{if◌then◌else◌, option_and_then}
 use Rattle.std.specs.Option.{option_map_or}
 use Rattle.std.specs.List.{find, enumerate_from}
 use Rattle.std.proofs.lemmas.Bool.{and_parts}
-use Rattle.tta_ops.specs.Units.{Units}
-use Rattle.tta_arch.specs.declared.parts.Op.{Op}
-use Rattle.tta_arch.specs.declared.parts.Op.TheVariants.{Ldw, Stw, Ldf, Stf, Out, Take, Set}
-use Rattle.tta_arch.specs.declared.parts.UnitOp.{UnitOp}
+use Rattle.tta_hardware.specs.Cited.{Units, Op, Ldw, Stw, Ldf, Stf, Out, Take, Set, UnitOp, Machine, op_at, has_result, is_set, value}
 use Rattle.tta_arch.specs.declared.parts.Unit.{Unit as OpUnit}
-use Rattle.tta_arch.specs.Machine.{Machine}
-use Rattle.tta_arch.specs.Effects.{op_at, has_result}
 use Rattle.tta_circuit.specs.Circuit.{Signal as OfSignal}
-use Rattle.tta_circuit.specs.Meaning.{is_set, value}
 use Rattle.tta_hardware.specs.Signals.{Signal as Named, HasBegun, Raw, IsInside, Starts, Expression}
 use Rattle.tta_hardware.specs.Wires.{is_load, loads, read_word, fresh}
 use Rattle.tta_hardware.specs.Stands.{Hardware, IsSettled, read_in, fresh_of, fresh_in}

@@ -3,14 +3,7 @@ use Rattle.std.proofs.Common.{◌≡◌, ℕ, zero, suc, ◌+◌, ◌*◌, Bool,
 use Rattle.std.specs.List.{flat_map, range_with_len, AllByRecursion}
 use Rattle.std.proofs.lemmas.Option.{none-some, same_Some}
 use Rattle.std.proofs.lemmas.List.{append_assoc, drop-drop, drop_at, take_at}
-use Rattle.tta_arch.specs.Machine.{Machine}
-use Rattle.tta_arch.specs.Fields.{numbers, word_width}
-use Rattle.tta_code.specs.declared.code.Instruction.{Instruction}
-use Rattle.tta_code.specs.Legal.{is_legal}
-use Rattle.tta_image.specs.Bits.{instruction_bits}
-use Rattle.tta_image.specs.Image.{header, version_of, data_section}
-use Rattle.tta_image.specs.Decoding.{number_of, field}
-use Rattle.tta_image.specs.Reading.{word_count}
+use Rattle.tta_hardware.specs.Cited.{Machine, numbers, word_width, Instruction, is_legal, instruction_bits, header, version_of, data_section, number_of, field, word_count}
 use Rattle.tta_image.proofs.ImageLemmas.{words_fit}
 use Rattle.tta_image.proofs.InstructionLemmas.{length-instruction_bits}
 use Rattle.tta_image.proofs.PairsDecoded.{data_stands}

@@ -1,11 +1,7 @@
 -- The circuit whose memory of code has the bits of an image runs as its machine.
 use Rattle.std.proofs.Common.{◌≡◌, ℕ, ◌<◌, false, List, length, sym, subst}
-use Rattle.tta_ops.specs.Units.{Units}
-use Rattle.tta_arch.specs.Machine.{Machine}
-use Rattle.tta_arch.specs.Rules.{IsMachine}
+use Rattle.tta_hardware.specs.Cited.{Units, Machine, IsMachine, IsLegalCode, cyc}
 use Rattle.tta_code.specs.declared.code.Code.{Code as Program}
-use Rattle.tta_code.specs.Legal.{IsLegalCode}
-use Rattle.tta_code.specs.Cycle.{cyc}
 use Rattle.tta_hardware.specs.Signals.{Signal as Named}
 use Rattle.tta_hardware.specs.Hardware.{code_words, circuit_with}
 use Rattle.tta_hardware.specs.Theorem.{is_fault}

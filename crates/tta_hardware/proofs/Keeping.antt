@@ -6,15 +6,10 @@ use Rattle.std.specs.List.{filter_map}
 use Rattle.std.proofs.lemmas.Option.{same_Some}
 use Rattle.std.proofs.lemmas.Bool.{false≢true}
 use Rattle.std.proofs.lemmas.List.Elements.{filter_map-append}
-use Rattle.tta_ops.specs.Units.{Units}
+use Rattle.tta_hardware.specs.Cited.{Units, Machine, numbers, Place, KeptReg, KeptImm, KeptOperand, KeptRa, KeptPort, kept, write_of, bring, Instruction, State, read_source, effect_of, moves_of, long_effects, Slice, value}
 use Rattle.tta_arch.specs.declared.ends.Dest.TheVariants as dest
-use Rattle.tta_arch.specs.Machine.{Machine}
-use Rattle.tta_arch.specs.Fields.{numbers}
-use Rattle.tta_arch.specs.Effects.{Place, KeptReg, KeptImm, KeptOperand, KeptRa, KeptPort, kept, write_of, bring, width_of}
-use Rattle.tta_code.specs.declared.code.Instruction.{Instruction}
-use Rattle.tta_code.specs.Cycle.{State, read_source, effect_of, moves_of, long_effects}
-use Rattle.tta_circuit.specs.Circuit.{Signal as OfSignal, Slice}
-use Rattle.tta_circuit.specs.Meaning.{value}
+use Rattle.tta_arch.specs.Effects.{width_of}
+use Rattle.tta_circuit.specs.Circuit.{Signal as OfSignal}
 use Rattle.tta_hardware.specs.Signals.{Signal as Named, Keeps, Word, Operand, Pc}
 use Rattle.tta_hardware.specs.Registers.{narrowed, kept_next}
 use Rattle.tta_hardware.specs.Stands.{Hardware, has_place, is_written}

@@ -5,11 +5,7 @@ use Rattle.std.specs.List.{AllByRecursion}
 use Rattle.std.proofs.lemmas.Nat.{pow_pos}
 use Rattle.std.proofs.lemmas.Option.{slice_get-map, get_or_from_slice_get}
 use Rattle.std.proofs.lemmas.List.{length-append, length-map, length-replicate}
-use Rattle.tta_arch.specs.Machine.{Machine}
-use Rattle.tta_arch.specs.Fields.{word_width}
-use Rattle.tta_code.specs.declared.code.Instruction.{Instruction}
-use Rattle.tta_code.specs.Legal.{is_legal}
-use Rattle.tta_image.specs.Bits.{instruction_bits}
+use Rattle.tta_hardware.specs.Cited.{Machine, word_width, Instruction, is_legal, instruction_bits}
 use Rattle.tta_image.proofs.Numbers.{number_of-below}
 use Rattle.tta_image.proofs.InstructionLemmas.{length-instruction_bits}
 use Rattle.tta_hardware.specs.Fields.{word_of}

@@ -4,12 +4,8 @@ use Rattle.std.specs.Prelude.{is_some, if◌then◌else◌}
 use Rattle.std.specs.Option.{option_map_or}
 use Rattle.std.proofs.lemmas.Option.{none-some, same_Some}
 use Rattle.std.proofs.lemmas.Bool.{false≢true, eq-eqb, ne_eqb, eqb-true, cases_lt}
-use Rattle.tta_ops.specs.Units.{Units}
-use Rattle.tta_arch.specs.Machine.{Machine}
-use Rattle.tta_arch.specs.Effects.{Kind, Jumps, Calls, Halts, first_some, control_of}
-use Rattle.tta_code.specs.Cycle.{State, Pending, Running, pending_after, lands, takes_effect}
+use Rattle.tta_hardware.specs.Cited.{Units, Machine, Kind, Jumps, Calls, Halts, first_some, control_of, State, Pending, Running, pending_after, lands, takes_effect, bit, is_set, value}
 use Rattle.tta_circuit.specs.Circuit.{Signal as OfSignal}
-use Rattle.tta_circuit.specs.Meaning.{bit, is_set, value}
 use Rattle.tta_hardware.specs.Signals.{Signal as Named, Pc, HasHalted, Underway, Goal, Controls, GoalNow, EndsNow, Lands}
 use Rattle.tta_hardware.specs.Stands.{Hardware, IsSettled, HasClocked, HasPending, halts, is_halted}
 use Rattle.tta_hardware.specs.Laws.{brought, Steers, HasSteered, ControlKeeps}

@@ -4,21 +4,12 @@ use Rattle.std.specs.Prelude.{is_some, if◌then◌else◌, nat_lt, ◌^◌}
 use Rattle.std.specs.Option.{option_map_or}
 use Rattle.std.specs.List.{find, filter_map, enumerate_from}
 use Rattle.std.proofs.lemmas.Bool.{and_parts, false≢true, eq-eqb, ne_eqb, eqb-true}
-use Rattle.tta_ops.specs.Units.{Units}
-use Rattle.tta_arch.specs.declared.parts.Template.{Template}
-use Rattle.tta_arch.specs.Machine.{Machine}
-use Rattle.tta_arch.specs.Effects.{KeptReg, KeptImm, KeptOperand, KeptRa, Written, kept, write_of, bring, long_effect}
-use Rattle.tta_code.specs.declared.code.Long.{Long}
-use Rattle.tta_code.specs.declared.code.Instruction.{Instruction}
-use Rattle.tta_code.specs.Legal.{is_long}
-use Rattle.tta_code.specs.Cycle.{State, read_source, long_effects}
+use Rattle.tta_hardware.specs.Cited.{Units, Template, Machine, KeptReg, KeptImm, KeptOperand, KeptRa, Written, kept, write_of, bring, long_effect, Long, Instruction, is_long, State, read_source, long_effects, Const, Equal, bit, is_set, value, template_width}
 use Rattle.tta_code.proofs.LegalParts.{legal_parts}
-use Rattle.tta_circuit.specs.Circuit.{Signal as OfSignal, Const, Equal}
-use Rattle.tta_circuit.specs.Meaning.{bit, is_set, value}
+use Rattle.tta_circuit.specs.Circuit.{Signal as OfSignal}
 use Rattle.tta_hardware.specs.Signals.{TemplateOf, LongOf, Signal as Named, Keeps, Fetched}
 use Rattle.tta_hardware.specs.Chains.{first_of}
 use Rattle.tta_hardware.specs.Registers.{longs}
-use Rattle.tta_arch.specs.Fields.{template_width}
 use Rattle.tta_hardware.specs.Stands.{Hardware}
 use Rattle.tta_hardware.specs.Laws.{Meet}
 use Rattle.tta_hardware.proofs.Bits.{template_some}

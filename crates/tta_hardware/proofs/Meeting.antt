@@ -4,15 +4,9 @@ use Rattle.std.specs.Prelude.{is_some, IsTrue}
 use Rattle.std.specs.List.{list_any}
 use Rattle.tta_arch.proofs.Widths.{pow_le}
 use Rattle.tta_list.proofs.Lists.{all_one}
-use Rattle.tta_ops.specs.Units.{Units}
-use Rattle.tta_arch.specs.Machine.{Machine}
-use Rattle.tta_arch.specs.Rules.{IsMachine}
-use Rattle.tta_arch.specs.Effects.{lacks_operand}
+use Rattle.tta_hardware.specs.Cited.{Units, Machine, IsMachine, lacks_operand, Instruction, is_legal, IsLegalCode, State, fault_of, first_fault, effects_of, clashes, jumps_in_delay, reads_unset_register, reads_unset_port}
 use Rattle.tta_arch.proofs.Facts.{address_most}
 use Rattle.tta_code.specs.declared.code.Code.{Code as Program}
-use Rattle.tta_code.specs.declared.code.Instruction.{Instruction}
-use Rattle.tta_code.specs.Legal.{is_legal, IsLegalCode}
-use Rattle.tta_code.specs.Cycle.{State, fault_of, first_fault, effects_of, clashes, jumps_in_delay, reads_unset_register, reads_unset_port}
 use Rattle.tta_hardware.specs.Signals.{Signal as Named, Pc}
 use Rattle.tta_hardware.specs.Stands.{Hardware, StandsFor, IsSettled}
 use Rattle.tta_hardware.specs.Laws.{Meet, Streams, brought, started_in}

@@ -4,14 +4,9 @@ use Rattle.std.specs.Prelude.{is_some, if◌then◌else◌, nat_lt, option_and_t
 use Rattle.std.specs.Option.{option_map_or}
 use Rattle.std.specs.List.{list_any, flat_map, enumerate_from, range_with_len}
 use Rattle.std.proofs.lemmas.Option.{none-some}
-use Rattle.tta_arch.specs.declared.parts.UnitOp.{UnitOp}
+use Rattle.tta_hardware.specs.Cited.{UnitOp, File, ImmUnit, Machine, numbers, guard_width, dest_width, template_width, Place, KeptReg, KeptImm, KeptOperand, KeptRa, KeptPort, op_at}
 use Rattle.std.proofs.lemmas.Bool.{and_parts, or_left, or_right, false≢true, ltb-true}
-use Rattle.tta_arch.specs.declared.parts.File.{File}
-use Rattle.tta_arch.specs.declared.parts.ImmUnit.{ImmUnit}
 use Rattle.tta_arch.specs.declared.parts.Unit.{Unit as OpUnit}
-use Rattle.tta_arch.specs.Machine.{Machine}
-use Rattle.tta_arch.specs.Fields.{numbers, guard_width, dest_width, template_width}
-use Rattle.tta_arch.specs.Effects.{Place, KeptReg, KeptImm, KeptOperand, KeptRa, KeptPort, op_at}
 use Rattle.tta_image.proofs.Places.{any_left, any_right, any_pieces, any_numbered}
 use Rattle.tta_hardware.specs.Signals.{Field, GuardOf, IsShort, SourceOf, ShortOf, DestOf, TemplateOf, LongOf, Signal as Named, Pc, HasHalted, Underway, Goal, Ends, Keeps, IsDue, Due, HasBegun, Raw, IsInside, Port, Whole, Fetched, Starts, Trigger, Operand, Controls, GoalNow, EndsNow, Lands, Asks, Gives, Goes, NextPc, Puts, PutWord, same_signal, same_field}
 use Rattle.tta_hardware.specs.Wires.{longest, is_load}

@@ -1,7 +1,7 @@
 -- No two signals of a machine's circuit have one name.
 use Rattle.std.proofs.Common.{◌≡◌, ℕ, ◌<◌, ◌≤◌, List, [], ◌∷◌, ◌++◌, map, refl, sym, ap, subst, arith}
 use Rattle.std.specs.List.{range_with_len, AllByRecursion}
-use Rattle.tta_arch.specs.Machine.{Machine}
+use Rattle.tta_hardware.specs.Cited.{Machine}
 use Rattle.tta_hardware.specs.Signals.{Signal as Named, Underway, IsOffered, Offer, IsReady, IsReset, same_signal}
 use Rattle.tta_hardware.specs.Registers.{register}
 use Rattle.tta_hardware.specs.Hardware.{first_wires, wire_names, register_names, wire}

@@ -4,7 +4,7 @@ use Rattle.std.proofs.lemmas.Bool.{cases_lt}
 use Rattle.std.proofs.lemmas.List.{append_assoc}
 use Rattle.std.proofs.lemmas.Nat.{shr-shr, shr_high, mod_low, mod_below, mod-pow-add, pow_pos}
 use Rattle.std.proofs.Math.Pow.{mod-mod-pow}
-use Rattle.tta_image.specs.Decoding.{number_of}
+use Rattle.tta_hardware.specs.Cited.{number_of}
 use Rattle.tta_image.proofs.BitLemmas.{low_whole}
 use Rattle.tta_image.proofs.Numbers.{number_of-append, number_of-below}
 

@@ -4,17 +4,8 @@ use Rattle.std.specs.Prelude.{is_some, if◌then◌else◌, nat_lt, option_and_t
 use Rattle.std.specs.Option.{option_map_or}
 use Rattle.std.specs.List.{enumerate_from, AllByRecursion}
 use Rattle.std.proofs.lemmas.Bool.{and_parts, and_from, lt-ltb, false≢true}
-use Rattle.tta_arch.specs.declared.parts.Op.{Op}
-use Rattle.tta_arch.specs.declared.parts.Op.TheVariants.{Ldw, Stw, Ldf, Stf, Out, Take, Set}
-use Rattle.tta_arch.specs.declared.parts.UnitOp.{UnitOp}
+use Rattle.tta_hardware.specs.Cited.{Op, Ldw, Stw, Ldf, Stf, Out, Take, Set, UnitOp, Dest, Machine, is_dest_on, numbers, dest_width, op_at, has_result, Const, Signal, Select, Equal, reads_below}
 use Rattle.tta_arch.specs.declared.parts.Unit.{Unit as OpUnit}
-use Rattle.tta_arch.specs.declared.ends.Dest.{Dest}
-use Rattle.tta_arch.specs.Machine.{Machine}
-use Rattle.tta_arch.specs.Joins.{is_dest_on}
-use Rattle.tta_arch.specs.Fields.{numbers, dest_width}
-use Rattle.tta_arch.specs.Effects.{op_at, has_result}
-use Rattle.tta_circuit.specs.Circuit.{Const, Signal, Select, Equal}
-use Rattle.tta_circuit.specs.Order.{reads_below}
 use Rattle.tta_circuit.proofs.Closed.{reads_one}
 use Rattle.tta_hardware.specs.Signals.{DestOf, Signal as Named, Expression, IsDue, Due, HasBegun, Raw, IsInside, Fetched, Word, Acts, Starts, Trigger, Operand}
 use Rattle.tta_hardware.specs.Chains.{any_of, first_of, pick_from}

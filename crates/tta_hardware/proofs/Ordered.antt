@@ -4,26 +4,16 @@ use Rattle.std.specs.Prelude.{nat_le, nat_lt, if◌then◌else◌}
 use Rattle.std.specs.List.{flat_map, enumerate_from, AllByRecursion}
 use Rattle.std.proofs.lemmas.Bool.{and_parts, and_from, le-leb, leb-true}
 use Rattle.std.proofs.lemmas.List.{append_assoc}
-use Rattle.tta_arch.specs.declared.parts.Guard.{Guard}
-use Rattle.tta_arch.specs.declared.parts.UnitOp.{UnitOp}
-use Rattle.tta_arch.specs.declared.ends.Source.{Source}
+use Rattle.tta_hardware.specs.Cited.{Guard, UnitOp, Source, Dest, Machine, same_op, Out, Take, KeptReg, KeptOperand, KeptPort, numbers, guards_on, sources_on, guard_width, payload_width, Not, reads_below, is_ordered, AreMadeBy, Const, Join}
 use Rattle.tta_arch.specs.declared.ends.Source.TheVariants as source
-use Rattle.tta_arch.specs.declared.ends.Dest.{Dest}
 use Rattle.tta_arch.specs.declared.ends.Dest.TheVariants as dest
-use Rattle.tta_arch.specs.Machine.{Machine}
-use Rattle.tta_arch.specs.Rules.{same_op}
-use Rattle.tta_arch.specs.declared.parts.Op.TheVariants.{Out, Take}
-use Rattle.tta_arch.specs.Effects.{KeptReg, KeptOperand, KeptPort, width_of}
-use Rattle.tta_arch.specs.Fields.{numbers, guards_on, sources_on, guard_width, payload_width}
-use Rattle.tta_circuit.specs.Circuit.{Signal as OfSignal, Not}
-use Rattle.tta_circuit.specs.Order.{reads_below, is_ordered}
-use Rattle.tta_circuit.specs.Laws.{AreMadeBy}
+use Rattle.tta_arch.specs.Effects.{width_of}
+use Rattle.tta_circuit.specs.Circuit.{Signal as OfSignal}
 use Rattle.tta_hardware.specs.Signals.{GuardOf, SourceOf, Signal as Named, Pc, HasHalted, Underway, Goal, Ends, Keeps, IsDue, Due, HasBegun, Raw, IsInside, Port, IsOffered, Offer, IsReady, IsReset, Fetched, Word, Acts, Starts, Trigger, Operand, Controls, GoalNow, EndsNow, Lands, Asks, Gives, Goes, NextPc, Puts, PutWord, Expression}
 use Rattle.tta_hardware.specs.Chains.{any_of, first_of, pick_from}
 use Rattle.tta_hardware.specs.Wires.{never, nothing, source_word, passing, hits, buses_to, reached, arrivals, ops_of, all_ops, made_of}
 use Rattle.tta_hardware.specs.Hardware.{all_fields, first_wires, bus_wires, unit_wires, wire_names, wire}
 use Rattle.tta_hardware.specs.Order.{rank}
-use Rattle.tta_circuit.specs.Circuit.{Const, Join}
 use Rattle.tta_hardware.specs.Signals.{Whole}
 use Rattle.tta_hardware.specs.Wires.{loads, read_word}
 use Rattle.tta_hardware.proofs.PartsRead.{field_reads}

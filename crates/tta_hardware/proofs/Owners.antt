@@ -3,13 +3,8 @@ use Rattle.std.proofs.Common.{◌≡◌, ℕ, ◌≤◌, ◌==◌, Bool, true, f
 use Rattle.std.specs.Prelude.{if◌then◌else◌, ◌++◌}
 use Rattle.std.specs.List.{list_any}
 use Rattle.std.proofs.lemmas.Bool.{or_left, or_right, le-leb, leb-true, false≢true}
-use Rattle.tta_arch.specs.declared.parts.Op.{Op}
-use Rattle.tta_arch.specs.declared.parts.Op.TheVariants.{Ldw, Stw, Ldf, Stf, Out, Take, Set}
-use Rattle.tta_arch.specs.declared.parts.UnitOp.{UnitOp}
+use Rattle.tta_hardware.specs.Cited.{Op, Ldw, Stw, Ldf, Stf, Out, Take, Set, UnitOp, Machine, IsMachine, same_op, fits_kind, has_one_owner, is_data_op, is_frame_op, is_stream_op, Start, store_data, store_frame, put_out, take_in, stores}
 use Rattle.tta_arch.specs.declared.parts.Unit.{Unit as OpUnit}
-use Rattle.tta_arch.specs.Machine.{Machine}
-use Rattle.tta_arch.specs.Rules.{IsMachine, same_op, fits_kind, has_one_owner, is_data_op, is_frame_op, is_stream_op}
-use Rattle.tta_arch.specs.Effects.{Start, store_data, store_frame, put_out, take_in, stores}
 
 -- ---- a kind within another
 

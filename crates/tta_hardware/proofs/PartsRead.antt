@@ -1,13 +1,7 @@
 -- The fields of a word read only what the word reads.
 use Rattle.std.proofs.Common.{◌≡◌, ℕ, zero, suc, ◌+◌, ◌-◌, ◌^◌, ◌==◌, min, Bool, true, false, ◌&&◌, nat_lt, if◌then◌else◌, List, [], ◌∷◌, length, refl}
 use Rattle.std.proofs.lemmas.Bool.{and_from}
-use Rattle.tta_arch.specs.declared.parts.Template.{Template}
-use Rattle.tta_arch.specs.Machine.{Machine}
-use Rattle.tta_arch.specs.Joins.{has_bit}
-use Rattle.tta_arch.specs.Fields.{bus_width, short_width}
-use Rattle.tta_image.specs.Decoding.{is_signed}
-use Rattle.tta_circuit.specs.Circuit.{Expr, Const, Slice, Join, Select, Either}
-use Rattle.tta_circuit.specs.Order.{reads_below}
+use Rattle.tta_hardware.specs.Cited.{Template, Machine, has_bit, bus_width, short_width, is_signed, Expr, Const, Slice, Join, Select, Either, reads_below}
 use Rattle.tta_hardware.specs.Signals.{Field, GuardOf, IsShort, SourceOf, ShortOf, DestOf, TemplateOf, LongOf}
 use Rattle.tta_hardware.specs.Parts.{buses_width, long_width, below_payload, above, template_part, has_template, takes_from, shares_from, long_from, with_high, short_part, field_part}
 

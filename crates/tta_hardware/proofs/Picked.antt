@@ -5,10 +5,8 @@ use Rattle.std.specs.List.{list_any, position_or_len}
 use Rattle.std.proofs.lemmas.Option.{none-some, same_Some, slice_get-get_or}
 use Rattle.std.proofs.lemmas.Bool.{eq-eqb, ne_eqb}
 use Rattle.std.proofs.lemmas.List.Sums.{passes_at_first}
-use Rattle.tta_ops.specs.Units.{Units}
+use Rattle.tta_hardware.specs.Cited.{Units, Expr, bit, is_set, value}
 use Rattle.tta_image.proofs.Places.{place_inside}
-use Rattle.tta_circuit.specs.Circuit.{Expr}
-use Rattle.tta_circuit.specs.Meaning.{bit, is_set, value}
 use Rattle.tta_hardware.specs.Chains.{pick_from}
 
 -- an element that passes, where the first one does

@@ -4,17 +4,8 @@ use Rattle.std.specs.Prelude.{is_some, nat_lt}
 use Rattle.std.specs.List.{find, list_any}
 use Rattle.std.proofs.lemmas.Option.{same_Some}
 use Rattle.std.proofs.lemmas.Bool.{false≢true, or_left, or_right, ltb-true, ltb-false}
-use Rattle.tta_ops.specs.Units.{Units}
-use Rattle.tta_arch.specs.declared.parts.Op.{Op}
-use Rattle.tta_arch.specs.declared.parts.Op.TheVariants.{Ldw, Stw, Ldf, Stf, Out, Take, Set}
-use Rattle.tta_arch.specs.Machine.{Machine}
-use Rattle.tta_arch.specs.Rules.{IsMachine, same_op, is_stream_op}
-use Rattle.tta_arch.specs.Effects.{Start, lacks_operand}
+use Rattle.tta_hardware.specs.Cited.{Units, Op, Ldw, Stw, Ldf, Stf, Out, Take, Set, Machine, IsMachine, same_op, is_stream_op, Start, lacks_operand, Instruction, IsLegalCode, State, Outcome, Running, Halted, Waiting, Fault, carry_out, or_fault, or_wait, waits, acts, fault_of, effects_of, cyc, bit, is_set}
 use Rattle.tta_code.specs.declared.code.Code.{Code as Program}
-use Rattle.tta_code.specs.declared.code.Instruction.{Instruction}
-use Rattle.tta_code.specs.Legal.{IsLegalCode}
-use Rattle.tta_code.specs.Cycle.{State, Outcome, Running, Halted, Waiting, Fault, carry_out, or_fault, or_wait, waits, acts, fault_of, effects_of, cyc}
-use Rattle.tta_circuit.specs.Meaning.{bit, is_set}
 use Rattle.tta_hardware.specs.Signals.{Signal as Named, HasHalted, IsOffered, IsReady, IsReset, Asks, Gives, Goes}
 use Rattle.tta_hardware.specs.Hardware.{circuit_of}
 use Rattle.tta_hardware.specs.Stands.{Hardware, IsSettled, start_in, is_halted}

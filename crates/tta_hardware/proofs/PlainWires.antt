@@ -4,10 +4,7 @@ use Rattle.std.specs.Prelude.{if◌then◌else◌, nat_lt}
 use Rattle.std.specs.List.{flat_map, enumerate_from, range_with_len, AllByRecursion}
 use Rattle.std.proofs.lemmas.Bool.{and_parts, and_from, ltb-true, lt-ltb}
 use Rattle.tta_arch.specs.declared.parts.Unit.{Unit as OpUnit}
-use Rattle.tta_arch.specs.Machine.{Machine}
-use Rattle.tta_arch.specs.Rules.{IsMachine}
-use Rattle.tta_arch.specs.Fields.{numbers, guard_width, dest_width, template_width}
-use Rattle.tta_circuit.specs.Plain.{IsWritten, IsWrittenWire}
+use Rattle.tta_hardware.specs.Cited.{Machine, IsMachine, numbers, guard_width, dest_width, template_width, IsWritten, IsWrittenWire}
 use Rattle.tta_hardware.specs.Signals.{Field, GuardOf, IsShort, SourceOf, ShortOf, DestOf, TemplateOf, LongOf, Signal as Named, Expression, Port, Fetched, Starts, Trigger, Operand, Controls, GoalNow, EndsNow, Lands, Asks, Gives, Goes, NextPc, Puts, PutWord}
 use Rattle.tta_hardware.specs.Fields.{field_width}
 use Rattle.tta_hardware.specs.Hardware.{with_bits, bus_fields, all_fields, bus_wires, unit_wires, first_wires, wire_names, wire}

@@ -4,15 +4,8 @@ use Rattle.std.specs.Prelude.{if◌then◌else◌}
 use Rattle.std.specs.List.{flat_map, enumerate_from, range_with_len, AllByRecursion}
 use Rattle.std.proofs.lemmas.Bool.{ltb-true}
 use Rattle.tta_arch.specs.declared.parts.Unit.{Unit as OpUnit}
-use Rattle.tta_arch.specs.declared.parts.UnitOp.{UnitOp}
-use Rattle.tta_arch.specs.declared.parts.Op.TheVariants.{Stw, Stf}
-use Rattle.tta_arch.specs.Machine.{Machine}
-use Rattle.tta_arch.specs.Rules.{IsMachine, same_op}
-use Rattle.tta_arch.specs.Fields.{numbers}
-use Rattle.tta_arch.specs.Effects.{Place, KeptReg, KeptImm, KeptOperand, KeptRa, KeptPort}
+use Rattle.tta_hardware.specs.Cited.{UnitOp, Stw, Stf, Machine, IsMachine, same_op, numbers, Place, KeptReg, KeptImm, KeptOperand, KeptRa, KeptPort, WritePort, IsWrittenWire, IsWrittenRegister, IsWrittenPort, IsPlain}
 use Rattle.tta_code.specs.declared.code.Code.{Code as Program}
-use Rattle.tta_circuit.specs.Circuit.{WritePort}
-use Rattle.tta_circuit.specs.Plain.{IsWrittenWire, IsWrittenRegister, IsWrittenPort, IsPlain}
 use Rattle.tta_hardware.specs.Signals.{Store, Signal as Named, Pc, HasHalted, Underway, Goal, Ends, Keeps, IsDue, Due, HasBegun, Raw, IsInside, Whole}
 use Rattle.tta_hardware.specs.Wires.{is_load, longest}
 use Rattle.tta_hardware.specs.Registers.{register}

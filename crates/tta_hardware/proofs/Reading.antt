@@ -4,18 +4,9 @@ use Rattle.std.specs.Prelude.{is_some, option_and_then}
 use Rattle.std.specs.List.{find, list_any}
 use Rattle.std.proofs.lemmas.Option.{none-some, same_Some}
 use Rattle.std.proofs.lemmas.Bool.{or_right, false≢true, eqb-true}
-use Rattle.tta_ops.specs.Units.{Units}
-use Rattle.tta_arch.specs.declared.parts.Op.{Op}
-use Rattle.tta_arch.specs.declared.parts.Op.TheVariants.{Ldw, Stw, Ldf, Stf}
-use Rattle.tta_arch.specs.declared.parts.UnitOp.{UnitOp}
+use Rattle.tta_hardware.specs.Cited.{Units, Op, Ldw, Stw, Ldf, Stf, UnitOp, Machine, has_one_owner, same_op, is_data_op, is_frame_op, Start, op_at, lacks_operand, Instruction, State, Const, Below, bit, is_set, value}
 use Rattle.tta_arch.specs.declared.parts.Unit.{Unit as OpUnit}
-use Rattle.tta_arch.specs.Machine.{Machine}
-use Rattle.tta_arch.specs.Rules.{has_one_owner, same_op, is_data_op, is_frame_op}
-use Rattle.tta_arch.specs.Effects.{Start, op_at, lacks_operand}
-use Rattle.tta_code.specs.declared.code.Instruction.{Instruction}
-use Rattle.tta_code.specs.Cycle.{State}
-use Rattle.tta_circuit.specs.Circuit.{Signal as OfSignal, Const, Below}
-use Rattle.tta_circuit.specs.Meaning.{bit, is_set, value}
+use Rattle.tta_circuit.specs.Circuit.{Signal as OfSignal}
 use Rattle.tta_hardware.specs.Signals.{Signal as Named, Starts, Operand, Goes}
 use Rattle.tta_hardware.specs.Wires.{some_start, word_of_start}
 use Rattle.tta_hardware.specs.Stands.{Hardware, Starting, start_in}

@@ -1,13 +1,8 @@
 -- The circuit of a machine reads only signals that it has.
 use Rattle.std.proofs.Common.{◌≡◌, ℕ, Bool, true, ◌&&◌, List, Some, refl}
 use Rattle.std.proofs.lemmas.Bool.{and_from}
-use Rattle.tta_arch.specs.declared.parts.Op.{Op}
-use Rattle.tta_arch.specs.declared.parts.Op.TheVariants.{Stw, Stf}
-use Rattle.tta_arch.specs.Machine.{Machine}
-use Rattle.tta_arch.specs.Rules.{IsMachine, same_op}
+use Rattle.tta_hardware.specs.Cited.{Op, Stw, Stf, Machine, IsMachine, same_op, Signal, reads_only, has_signal, PortReads, IsClosed}
 use Rattle.tta_code.specs.declared.code.Code.{Code as Program}
-use Rattle.tta_circuit.specs.Circuit.{Signal}
-use Rattle.tta_circuit.specs.Closed.{reads_only, has_signal, PortReads, IsClosed}
 use Rattle.tta_circuit.proofs.Closed.{reads_wider}
 use Rattle.tta_hardware.specs.Signals.{Signal as Named, Expression, Trigger, Operand, same_signal}
 use Rattle.tta_hardware.specs.Wires.{some_start, word_of_start, made_of}

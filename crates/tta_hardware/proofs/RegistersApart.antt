@@ -3,12 +3,7 @@ use Rattle.std.proofs.Common.{◌≡◌, ℕ, ◌-◌, ◌<◌, ◌≤◌, Bool,
 use Rattle.std.specs.Prelude.{if◌then◌else◌}
 use Rattle.std.specs.List.{flat_map, enumerate_from, range_with_len, AllByRecursion}
 use Rattle.tta_arch.specs.declared.parts.Unit.{Unit as OpUnit}
-use Rattle.tta_arch.specs.declared.parts.UnitOp.{UnitOp}
-use Rattle.tta_arch.specs.declared.parts.File.{File}
-use Rattle.tta_arch.specs.declared.parts.ImmUnit.{ImmUnit}
-use Rattle.tta_arch.specs.Machine.{Machine}
-use Rattle.tta_arch.specs.Fields.{numbers}
-use Rattle.tta_arch.specs.Effects.{KeptReg, KeptImm, KeptOperand, KeptRa, KeptPort}
+use Rattle.tta_hardware.specs.Cited.{UnitOp, File, ImmUnit, Machine, numbers, KeptReg, KeptImm, KeptOperand, KeptRa, KeptPort}
 use Rattle.tta_hardware.specs.Signals.{Signal as Named, Pc, HasHalted, Underway, Goal, Ends, Keeps, IsDue, Due, HasBegun, Raw, IsInside, Whole}
 use Rattle.tta_hardware.specs.Wires.{is_load, longest}
 use Rattle.tta_hardware.specs.Hardware.{result_registers, load_registers, unit_registers, register_names}

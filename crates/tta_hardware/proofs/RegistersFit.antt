@@ -5,19 +5,11 @@ use Rattle.std.specs.Option.{option_map_or}
 use Rattle.std.specs.List.{enumerate_from, AllByRecursion}
 use Rattle.std.proofs.lemmas.Bool.{eqb-true, lt-ltb}
 use Rattle.std.proofs.lemmas.Nat.{pow_pos}
-use Rattle.tta_arch.specs.declared.parts.Op.{Op}
-use Rattle.tta_arch.specs.declared.parts.Op.TheVariants.{Ldw, Stw, Ldf, Stf, Out, Take, Set}
-use Rattle.tta_arch.specs.declared.parts.UnitOp.{UnitOp}
-use Rattle.tta_arch.specs.declared.parts.Template.{Template}
+use Rattle.tta_hardware.specs.Cited.{Op, Ldw, Stw, Ldf, Stf, Out, Take, Set, UnitOp, Template, Machine, IsMachine, is_dest_on, numbers, template_width, word_width, Place, KeptReg, KeptImm, KeptOperand, KeptRa, KeptPort, op_at, Const, Signal, Slice, Select, Either, Equal, Below}
 use Rattle.tta_arch.specs.declared.ends.Dest.TheVariants as dest
-use Rattle.tta_arch.specs.Machine.{Machine}
-use Rattle.tta_arch.specs.Rules.{IsMachine}
-use Rattle.tta_arch.specs.Joins.{is_dest_on}
-use Rattle.tta_arch.specs.Fields.{numbers, template_width, word_width}
-use Rattle.tta_arch.specs.Effects.{Place, KeptReg, KeptImm, KeptOperand, KeptRa, KeptPort, op_at, width_of}
+use Rattle.tta_arch.specs.Effects.{width_of}
 use Rattle.tta_arch.proofs.Facts.{address_most}
 use Rattle.tta_arch.proofs.Widths.{pow_le}
-use Rattle.tta_circuit.specs.Circuit.{Const, Signal, Slice, Select, Either, Equal, Below}
 use Rattle.tta_hardware.specs.Signals.{TemplateOf, LongOf, Data, Frame, Code, Expression, Signal as Named, Pc, IsReset, NextPc, Underway, Keeps, IsDue, Due, Port, Offer, Fetched, Word, Starts, Trigger, Operand, Controls, GoalNow, EndsNow, Lands, Goes}
 use Rattle.tta_hardware.specs.Wires.{never, next_pc, nothing, fresh, hits, buses_to, all_ops, word_of_start, result_of, timed, begins, made, is_coming, coming, longest}
 use Rattle.tta_hardware.specs.Registers.{read_at, space_size, narrowed, kept_next, next_of, restarts, enabled}

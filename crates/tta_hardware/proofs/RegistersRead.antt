@@ -4,15 +4,9 @@ use Rattle.std.specs.Prelude.{is_some, if◌then◌else◌, nat_lt, nat_le}
 use Rattle.std.specs.Option.{option_map_or}
 use Rattle.std.specs.List.{enumerate_from}
 use Rattle.std.proofs.lemmas.Bool.{and_parts, and_from, lt-ltb, le-leb, leb-true, false≢true, eq-eqb, cases_lt}
-use Rattle.tta_arch.specs.declared.parts.Op.{Op}
-use Rattle.tta_arch.specs.declared.parts.Op.TheVariants.{Ldw, Stw, Ldf, Stf, Out, Take, Set}
-use Rattle.tta_arch.specs.declared.parts.Template.{Template}
-use Rattle.tta_arch.specs.declared.parts.UnitOp.{UnitOp}
+use Rattle.tta_hardware.specs.Cited.{Op, Ldw, Stw, Ldf, Stf, Out, Take, Set, Template, UnitOp, Machine, template_width, Place, KeptReg, KeptImm, KeptOperand, KeptRa, KeptPort, op_at, Const, Signal, Slice, Select, Either, Equal, Below}
 use Rattle.tta_arch.specs.declared.ends.Dest.TheVariants as dest
-use Rattle.tta_arch.specs.Machine.{Machine}
-use Rattle.tta_arch.specs.Fields.{template_width}
-use Rattle.tta_arch.specs.Effects.{Place, KeptReg, KeptImm, KeptOperand, KeptRa, KeptPort, op_at, width_of}
-use Rattle.tta_circuit.specs.Circuit.{Const, Signal, Slice, Select, Either, Equal, Below}
+use Rattle.tta_arch.specs.Effects.{width_of}
 use Rattle.tta_hardware.specs.Signals.{TemplateOf, LongOf, Signal as Named, Pc, HasHalted, Underway, Goal, Ends, Keeps, IsDue, Due, HasBegun, Raw, IsInside, Port, IsOffered, Offer, IsReady, IsReset, Whole, Fetched, Word, Acts, Starts, Trigger, Operand, Controls, GoalNow, EndsNow, Lands, Asks, Gives, Goes, NextPc, Puts, PutWord}
 use Rattle.tta_hardware.specs.Wires.{never, nothing, hits, buses_to, reached, begins, made, longest, is_coming, coming}
 use Rattle.tta_hardware.specs.Registers.{narrowed, kept_next, read_at, space_size, becomes, next_of, restarts, enabled}

@@ -1,18 +1,10 @@
 -- A small machine as a circuit, clock by clock.
 use Rattle.std.specs.Prelude.{◌≡◌, ℕ, zero, [], ◌∷◌, true, false, Some, None, codes, refl}
-use Rattle.tta_ops.specs.Units.{Units}
-use Rattle.tta_arch.specs.declared.parts.Op.TheVariants.{Ldw, Out}
-use Rattle.tta_arch.specs.declared.ends.Source.{Source}
+use Rattle.tta_hardware.specs.Cited.{Units, Ldw, Out, Source, Dest, Machine, width_for, instruction_bits, Instruction, is_set}
 use Rattle.tta_arch.specs.declared.ends.Source.TheVariants as source
-use Rattle.tta_arch.specs.declared.ends.Dest.{Dest}
 use Rattle.tta_arch.specs.declared.ends.Dest.TheVariants as dest
-use Rattle.tta_arch.specs.Machine.{Machine}
-use Rattle.tta_arch.specs.Fields.{width_for}
 use Rattle.tta_arch.proofs.Samples.{one_bus}
-use Rattle.tta_image.specs.Bits.{instruction_bits}
-use Rattle.tta_code.specs.declared.code.Instruction.{Instruction}
 use Rattle.tta_code.specs.declared.code.Code.{Code as Program}
-use Rattle.tta_circuit.specs.Meaning.{is_set}
 use Rattle.tta_hardware.specs.Signals.{Signal as Named, HasHalted, IsReady, IsReset}
 use Rattle.tta_hardware.specs.Runs.{hardware, cycles, put}
 

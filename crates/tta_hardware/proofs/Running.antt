@@ -5,20 +5,13 @@ use Rattle.std.proofs.lemmas.Option.{none-some}
 use Rattle.std.proofs.lemmas.Bool.{or_left, or_right, false≢true, ltb-true, ltb-false}
 use Rattle.std.proofs.lemmas.List.{length-replicate, drop-drop}
 use Rattle.std.proofs.lemmas.Nat.{pow_pos}
-use Rattle.tta_ops.specs.Units.{Units}
-use Rattle.tta_arch.specs.Machine.{Machine}
-use Rattle.tta_arch.specs.Rules.{IsMachine}
-use Rattle.tta_arch.specs.Effects.{KeptPort}
+use Rattle.tta_hardware.specs.Cited.{Units, Machine, IsMachine, KeptPort, IsLegalCode, State, Outcome, Running, Halted, Waiting, Fault, next, start, cyc, bit, is_set, left}
 use Rattle.tta_code.specs.declared.code.Code.{Code as Program}
-use Rattle.tta_code.specs.Legal.{IsLegalCode}
-use Rattle.tta_code.specs.Cycle.{State, Outcome, Running, Halted, Waiting, Fault, next, start, cyc}
 use Rattle.tta_hardware.specs.Fields.{word_of}
-use Rattle.tta_circuit.specs.Meaning.{bit, is_set}
 use Rattle.tta_hardware.specs.Signals.{Code, Data, Frame, Signal as Named, Pc, HasHalted, Underway, Goal, Ends, Keeps, IsDue, Due, HasBegun, Raw, IsInside, Asks, IsOffered, IsReady, IsReset, Whole, Gives, Goes, Puts, PutWord}
 use Rattle.tta_hardware.specs.Wires.{longest, loads}
 use Rattle.tta_hardware.specs.Stands.{Hardware, fresh_in, StandsFor, IsSettled, is_halted}
 use Rattle.tta_hardware.specs.Theorem.{is_fault, is_waiting, IsFed, HasStepped}
-use Rattle.tta_list.specs.Input.{left}
 use Rattle.tta_hardware.specs.Hardware.{circuit_of}
 use Rattle.tta_hardware.specs.Runs.{taken, AreClocks, hardware, signals, cycles, put, HasRun, IsStill, CircuitRuns, StandsStill}
 use Rattle.tta_hardware.proofs.Chained.{set_bit, going}

@@ -5,27 +5,12 @@ use Rattle.std.specs.Option.{option_map_or}
 use Rattle.std.proofs.lemmas.Bool.{eqb-true}
 use Rattle.std.proofs.lemmas.Nat.{mod_below, pow_pos}
 use Rattle.std.proofs.lemmas.Option.{none-some, slice_get-get_or}
-use Rattle.tta_ops.specs.Units.{Units}
-use Rattle.tta_arch.specs.declared.ends.Source.{Source}
+use Rattle.tta_hardware.specs.Cited.{Units, Source, Machine, has_bit, is_source_on, guard_width, short_width, payload_width, dest_width, template_width, guard_code, source_code, dest_code, IsMachine, Move, Long, Instruction, is_legal, template_code, buses_of, bit_value, short_word, is_signed, Expr, Const, Join, Slice, Select, is_set, value, Signal}
 use Rattle.tta_arch.specs.declared.ends.Source.TheVariants as source
-use Rattle.tta_arch.specs.Machine.{Machine}
-use Rattle.tta_arch.specs.Joins.{has_bit, is_source_on}
-use Rattle.tta_arch.specs.Fields.{guard_width, short_width, payload_width, dest_width, template_width, guard_code, source_code, dest_code}
-use Rattle.tta_arch.specs.Rules.{IsMachine}
-use Rattle.tta_code.specs.declared.code.Move.{Move}
-use Rattle.tta_code.specs.declared.code.Long.{Long}
-use Rattle.tta_code.specs.declared.code.Instruction.{Instruction}
-use Rattle.tta_code.specs.Legal.{is_legal}
-use Rattle.tta_image.specs.Bits.{template_code}
-use Rattle.tta_image.specs.Fields.{buses_of}
-use Rattle.tta_image.specs.Sink.{bit_value}
-use Rattle.tta_image.specs.Decoding.{short_word, is_signed}
 use Rattle.tta_image.proofs.ShortDecoded.{value_decoded}
 use Rattle.tta_image.proofs.NarrowFields.{narrow}
 use Rattle.tta_image.proofs.SlotLemmas.{is_joined_slot, joined_parts}
 use Rattle.tta_image.proofs.InstructionLemmas.{whole_of, empty_where_taken}
-use Rattle.tta_circuit.specs.Circuit.{Expr, Const, Join, Slice, Select}
-use Rattle.tta_circuit.specs.Meaning.{is_set, value}
 use Rattle.tta_hardware.specs.Signals.{GuardOf, IsShort, SourceOf, ShortOf, DestOf, TemplateOf, LongOf}
 use Rattle.tta_hardware.specs.Fields.{slot_at, short_mark, field_of}
 use Rattle.tta_hardware.specs.Fields.{word_of}
@@ -33,8 +18,6 @@ use Rattle.tta_hardware.specs.Parts.{below_bus, below_payload, below_tag, below_
 use Rattle.tta_hardware.proofs.Numbers.{low_low, part_in_part}
 use Rattle.tta_hardware.proofs.Slots.{payload_of, is_value, HasSlot, kept_at}
 use Rattle.std.proofs.lemmas.Bool.{and_from, lt-ltb}
-use Rattle.tta_arch.specs.Joins.{is_source_on}
-use Rattle.tta_circuit.specs.Circuit.{Signal}
 use Rattle.tta_hardware.specs.Signals.{Whole}
 use Rattle.tta_hardware.specs.Laws.{FieldsServe}
 use Rattle.tta_hardware.proofs.Told.{slot_in_word, code_told, takes_told, long_by}

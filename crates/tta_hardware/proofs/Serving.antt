@@ -5,18 +5,10 @@ use Rattle.std.specs.Option.{option_map_or}
 use Rattle.std.specs.List.{find, list_any, flat_map, enumerate_from, AllByRecursion}
 use Rattle.std.proofs.lemmas.Option.{none-some, same_Some}
 use Rattle.std.proofs.lemmas.Bool.{or_left, or_right, false≢true, eq-eqb, eqb-true}
-use Rattle.tta_ops.specs.Units.{Units}
-use Rattle.tta_arch.specs.declared.parts.Op.{Op}
-use Rattle.tta_arch.specs.declared.parts.UnitOp.{UnitOp}
+use Rattle.tta_hardware.specs.Cited.{Units, Op, UnitOp, Machine, are_different, has_one_owner, Start, op_at, lacks_operand, Instruction, State, read_source, is_set, value}
 use Rattle.tta_arch.specs.declared.parts.Unit.{Unit as OpUnit}
-use Rattle.tta_arch.specs.Machine.{Machine}
-use Rattle.tta_arch.specs.Rules.{are_different, has_one_owner}
-use Rattle.tta_arch.specs.Effects.{Start, op_at, lacks_operand}
 use Rattle.tta_image.proofs.Places.{any_pieces}
-use Rattle.tta_code.specs.declared.code.Instruction.{Instruction}
-use Rattle.tta_code.specs.Cycle.{State, read_source}
 use Rattle.tta_circuit.specs.Circuit.{Signal as OfSignal}
-use Rattle.tta_circuit.specs.Meaning.{is_set, value}
 use Rattle.tta_hardware.specs.Signals.{Signal as Named, Starts, Expression}
 use Rattle.tta_hardware.specs.Wires.{all_ops, some_start, word_of_start, nothing}
 use Rattle.tta_hardware.specs.Stands.{Hardware, Starting, StartsOne, start_in}

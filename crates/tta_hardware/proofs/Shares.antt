@@ -4,15 +4,9 @@ use Rattle.std.specs.List.{range_with_len}
 use Rattle.std.proofs.lemmas.Bool.{eqb-true, ltb-true, ltb-false}
 use Rattle.std.proofs.lemmas.List.{append_assoc, take-append-drop, length-drop, length-take-le}
 use Rattle.std.proofs.lemmas.List.Sums.{sum_by-cons}
-use Rattle.tta_ops.specs.Units.{Units}
-use Rattle.tta_arch.specs.Machine.{Machine}
-use Rattle.tta_arch.specs.Joins.{has_bit}
-use Rattle.tta_arch.specs.Fields.{bus_width}
-use Rattle.tta_image.specs.Decoding.{number_of, taken_bits}
+use Rattle.tta_hardware.specs.Cited.{Units, Machine, has_bit, bus_width, number_of, taken_bits, Expr, Slice, Join, value}
 use Rattle.tta_image.proofs.Numbers.{number_of-append, number_of-below}
 use Rattle.tta_image.proofs.InstructionDecoded.{fields_from, length-taken_bits}
-use Rattle.tta_circuit.specs.Circuit.{Expr, Slice, Join}
-use Rattle.tta_circuit.specs.Meaning.{value}
 use Rattle.tta_hardware.specs.Parts.{buses_width, long_width, above, shares_from}
 use Rattle.tta_hardware.proofs.Numbers.{piece_at, low_low, joined_low, joined_high}
 

@@ -4,14 +4,8 @@ use Rattle.std.specs.Prelude.{is_some, if◌then◌else◌, slice_index, nat_lt}
 use Rattle.std.specs.Option.{option_map_or}
 use Rattle.std.proofs.lemmas.Bool.{false≢true, ltb-false}
 use Rattle.std.proofs.lemmas.List.{get_or_past}
-use Rattle.tta_ops.specs.Units.{Units}
-use Rattle.tta_arch.specs.declared.parts.Op.{Op}
-use Rattle.tta_arch.specs.declared.parts.Op.TheVariants.{Ldw, Stw, Ldf, Stf, Out, Take, Set}
-use Rattle.tta_arch.specs.Machine.{Machine}
-use Rattle.tta_arch.specs.Effects.{Start, result_word, operand_word, takes, takes_in}
-use Rattle.tta_code.specs.Cycle.{State}
-use Rattle.tta_circuit.specs.Circuit.{Signal as OfSignal, Const, Below}
-use Rattle.tta_circuit.specs.Meaning.{bit, is_set, value}
+use Rattle.tta_hardware.specs.Cited.{Units, Op, Ldw, Stw, Ldf, Stf, Out, Take, Set, Machine, Start, result_word, operand_word, takes, takes_in, State, Const, Below, bit, is_set, value}
+use Rattle.tta_circuit.specs.Circuit.{Signal as OfSignal}
 use Rattle.tta_hardware.specs.Signals.{Signal as Named, Data, Frame, Raw, Offer, Trigger, Operand}
 use Rattle.tta_hardware.specs.Wires.{result_of as result_made, never, nothing, is_load, loads}
 use Rattle.tta_hardware.specs.Registers.{read_at, space_size}

@@ -6,12 +6,9 @@ use Rattle.std.specs.List.{find, list_any, filter_map, cons_option, AllByRecursi
 use Rattle.std.proofs.lemmas.Option.{none-some, same_Some}
 use Rattle.std.proofs.lemmas.Bool.{and_parts, or_parts, or_from, false≢true, not-true, eq-eqb}
 use Rattle.tta_list.proofs.Lists.{any_there}
-use Rattle.tta_arch.specs.declared.parts.Op.{Op}
-use Rattle.tta_arch.specs.declared.parts.UnitOp.{UnitOp}
+use Rattle.tta_hardware.specs.Cited.{Op, UnitOp, Machine, are_different, has_one_owner, Reg, Imm, Control, Brought, Written, Start, start_of, op_at, operand_of}
 use Rattle.tta_arch.specs.declared.parts.Unit.{Unit as OpUnit}
-use Rattle.tta_arch.specs.Machine.{Machine}
-use Rattle.tta_arch.specs.Rules.{are_different, has_one_owner}
-use Rattle.tta_arch.specs.Effects.{Reg, Imm, Operand, Trigger, Control, Brought, Written, Start, start_of, op_at, operand_of}
+use Rattle.tta_arch.specs.Effects.{Operand, Trigger}
 use Rattle.tta_arch.proofs.Takes.{one_owner}
 use Rattle.tta_hardware.specs.Stands.{start_in}
 use Rattle.tta_hardware.proofs.Goings.{found_not}

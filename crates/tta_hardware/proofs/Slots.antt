@@ -3,16 +3,9 @@ use Rattle.std.proofs.Common.{◌≡◌, ℕ, zero, suc, ◌+◌, ◌/◌, ◌%�
 use Rattle.std.proofs.lemmas.Nat.{mod_below, pow_pos}
 use Rattle.std.proofs.lemmas.Option.{none-some, same_Some}
 use Rattle.std.proofs.lemmas.List.{append_assoc, append-nil, length-append, length-drop}
-use Rattle.tta_arch.specs.declared.ends.Source.{Source}
+use Rattle.tta_hardware.specs.Cited.{Source, Machine, has_bit, is_source_on, width_for, guards_on, sources_on, dests_on, short_width, guard_width, payload_width, dest_width, bus_width, guard_code, source_code, dest_code, Move, bits_of, source_bits, slot_bits, slots_bits, bit_value, number_of}
 use Rattle.tta_arch.specs.declared.ends.Source.TheVariants as source
-use Rattle.tta_arch.specs.Machine.{Machine}
-use Rattle.tta_arch.specs.Joins.{has_bit, is_source_on}
-use Rattle.tta_arch.specs.Fields.{width_for, guards_on, sources_on, dests_on, short_width, guard_width, payload_width, dest_width, bus_width, guard_code, source_code, dest_code}
 use Rattle.tta_arch.proofs.Widths.{width_for-enough, pow_le, no_high}
-use Rattle.tta_code.specs.declared.code.Move.{Move}
-use Rattle.tta_image.specs.Bits.{bits_of, source_bits, slot_bits, slots_bits}
-use Rattle.tta_image.specs.Sink.{bit_value}
-use Rattle.tta_image.specs.Decoding.{number_of}
 use Rattle.tta_image.proofs.Unique.{length-bits_of}
 use Rattle.tta_image.proofs.Numbers.{number_of-bits_of_small, number_of-zeros}
 use Rattle.tta_image.proofs.BitLemmas.{low_whole}

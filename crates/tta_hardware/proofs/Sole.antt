@@ -4,11 +4,8 @@ use Rattle.std.specs.Prelude.{option_map, option_and_then}
 use Rattle.std.specs.List.{list_any}
 use Rattle.std.proofs.lemmas.Option.{none-some, same_Some}
 use Rattle.std.proofs.lemmas.Bool.{and_parts, or_left, or_right, false≢true, not-true, cases_lt}
-use Rattle.tta_arch.specs.Machine.{Machine}
+use Rattle.tta_hardware.specs.Cited.{Machine, Move, Instruction, ends_of, is_legal}
 use Rattle.tta_arch.specs.Legal.{Ends, are_apart, same_place, ends_of as ends_in}
-use Rattle.tta_code.specs.declared.code.Move.{Move}
-use Rattle.tta_code.specs.declared.code.Instruction.{Instruction}
-use Rattle.tta_code.specs.Legal.{ends_of, is_legal}
 use Rattle.tta_code.proofs.LegalParts.{legal_parts}
 use Rattle.tta_hardware.specs.Fields.{slot_at}
 

@@ -5,17 +5,8 @@ use Rattle.std.specs.Option.{option_map_or}
 use Rattle.std.specs.List.{find, list_any}
 use Rattle.std.proofs.lemmas.Bool.{or_left, or_right, ltb-false, false≢true}
 use Rattle.std.proofs.lemmas.List.{set_past, length-set}
-use Rattle.tta_list.specs.Input.{left}
-use Rattle.tta_ops.specs.Units.{Units}
-use Rattle.tta_arch.specs.declared.parts.Op.{Op}
-use Rattle.tta_arch.specs.declared.parts.Op.TheVariants.{Ldw, Stw, Ldf, Stf, Out, Take, Set}
-use Rattle.tta_arch.specs.Machine.{Machine}
-use Rattle.tta_arch.specs.Rules.{same_op, has_one_owner}
-use Rattle.tta_arch.specs.Effects.{Start, store_data, store_frame, put_out, take_in, takes, takes_in, stores, lacks_operand, operand_word}
-use Rattle.tta_code.specs.declared.code.Instruction.{Instruction}
-use Rattle.tta_code.specs.Cycle.{State}
+use Rattle.tta_hardware.specs.Cited.{left, Units, Op, Ldw, Stw, Ldf, Stf, Out, Take, Set, Machine, same_op, has_one_owner, Start, store_data, store_frame, put_out, take_in, takes, takes_in, stores, lacks_operand, operand_word, Instruction, State, bit, is_set, value}
 use Rattle.tta_circuit.specs.Circuit.{Signal as OfSignal}
-use Rattle.tta_circuit.specs.Meaning.{bit, is_set, value}
 use Rattle.tta_hardware.specs.Signals.{Data, Frame, Signal as Named, Trigger, Operand, Asks, Gives, Goes, Puts, PutWord}
 use Rattle.tta_hardware.specs.Wires.{some_start, word_of_start}
 use Rattle.tta_hardware.specs.Hardware.{store_port}

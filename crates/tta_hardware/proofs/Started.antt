@@ -6,24 +6,12 @@ use Rattle.std.specs.List.{find, list_any, filter_map, flat_map, enumerate_from}
 use Rattle.std.proofs.lemmas.Option.{none-some, same_Some}
 use Rattle.std.proofs.lemmas.Bool.{and_parts, and_from, false≢true, eq-eqb, eqb-true, ltb-true}
 use Rattle.std.proofs.lemmas.List.Elements.{filter_map-append}
-use Rattle.tta_ops.specs.Units.{Units}
-use Rattle.tta_arch.specs.declared.parts.UnitOp.{UnitOp}
+use Rattle.tta_hardware.specs.Cited.{Units, UnitOp, Template, Dest, Machine, within, has_socket, is_source_on, is_dest_on, has_guard, numbers, same_dest, KeptOperand, Start, kept, start_of, bring, op_at, operand_of, operand_word, lacks_operand, long_effect, Move, Long, Instruction, State, read_source, effect_of, moves_of, long_effects, is_set, value}
 use Rattle.tta_arch.specs.declared.parts.Unit.{Unit as OpUnit}
-use Rattle.tta_arch.specs.declared.parts.Template.{Template}
-use Rattle.tta_arch.specs.declared.ends.Dest.{Dest}
 use Rattle.tta_arch.specs.declared.ends.Dest.TheVariants as dest
-use Rattle.tta_arch.specs.Machine.{Machine}
-use Rattle.tta_arch.specs.Joins.{within, has_socket, is_source_on, is_dest_on, has_guard}
 use Rattle.tta_arch.specs.Legal.{same_place}
-use Rattle.tta_arch.specs.Fields.{numbers, same_dest}
-use Rattle.tta_arch.specs.Effects.{KeptOperand, Start, kept, start_of, bring, op_at, operand_of, operand_word, lacks_operand, long_effect}
 use Rattle.tta_image.proofs.EndsLemmas.{same_dest_itself}
-use Rattle.tta_code.specs.declared.code.Move.{Move}
-use Rattle.tta_code.specs.declared.code.Long.{Long}
-use Rattle.tta_code.specs.declared.code.Instruction.{Instruction}
-use Rattle.tta_code.specs.Cycle.{State, read_source, effect_of, moves_of, long_effects}
 use Rattle.tta_circuit.specs.Circuit.{Signal as OfSignal}
-use Rattle.tta_circuit.specs.Meaning.{is_set, value}
 use Rattle.tta_hardware.specs.Signals.{Signal as Named, Word, Acts, Operand}
 use Rattle.tta_hardware.specs.Chains.{first_of}
 use Rattle.tta_hardware.specs.Fields.{slot_at}

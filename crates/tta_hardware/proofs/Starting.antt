@@ -5,14 +5,8 @@ use Rattle.std.specs.Option.{option_map_or}
 use Rattle.std.specs.List.{find, filter_map, cons_option, range_with_len}
 use Rattle.std.proofs.lemmas.Option.{none-some, same_Some}
 use Rattle.std.proofs.lemmas.Bool.{false≢true, eqb-true}
-use Rattle.tta_arch.specs.declared.parts.UnitOp.{UnitOp}
-use Rattle.tta_arch.specs.declared.ends.Dest.{Dest}
+use Rattle.tta_hardware.specs.Cited.{UnitOp, Dest, Machine, Written, Brought, Start, target_of, start_of, op_at, operand_of, Move, Instruction, is_set}
 use Rattle.tta_arch.specs.declared.ends.Dest.TheVariants as dest
-use Rattle.tta_arch.specs.Machine.{Machine}
-use Rattle.tta_arch.specs.Effects.{Written, Brought, Start, target_of, start_of, op_at, operand_of}
-use Rattle.tta_code.specs.declared.code.Move.{Move}
-use Rattle.tta_code.specs.declared.code.Instruction.{Instruction}
-use Rattle.tta_circuit.specs.Meaning.{is_set}
 use Rattle.tta_hardware.specs.Signals.{Signal as Named, Word, Acts}
 use Rattle.tta_hardware.specs.Fields.{slot_at}
 use Rattle.tta_hardware.specs.Stands.{start_in}

@@ -4,13 +4,8 @@ use Rattle.std.specs.Prelude.{slice_index}
 use Rattle.std.specs.List.{AllByRecursion}
 use Rattle.std.proofs.lemmas.Nat.{pow_pos}
 use Rattle.std.proofs.lemmas.Bool.{false≢true}
-use Rattle.tta_arch.specs.Machine.{Machine}
-use Rattle.tta_arch.specs.Fields.{word_width}
+use Rattle.tta_hardware.specs.Cited.{Machine, word_width, Instruction, is_legal, IsLegalCode, is_input, powered, TellsApart, IsWithin}
 use Rattle.tta_code.specs.declared.code.Code.{Code as Program}
-use Rattle.tta_code.specs.declared.code.Instruction.{Instruction}
-use Rattle.tta_code.specs.Legal.{is_legal, IsLegalCode}
-use Rattle.tta_circuit.specs.Meaning.{is_input, powered}
-use Rattle.tta_circuit.specs.Laws.{TellsApart, IsWithin}
 use Rattle.tta_circuit.proofs.Within.{stays_within}
 use Rattle.tta_hardware.specs.Signals.{Store, Code, Data, Frame, Signal as Named, IsOffered, Offer, IsReady, IsReset, same_store, same_signal}
 use Rattle.tta_hardware.specs.Fields.{word_of}

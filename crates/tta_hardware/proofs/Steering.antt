@@ -6,21 +6,11 @@ use Rattle.std.specs.List.{find, filter_map, cons_option}
 use Rattle.std.proofs.lemmas.Option.{same_Some}
 use Rattle.std.proofs.lemmas.Bool.{and_parts, and_from, false≢true}
 use Rattle.std.proofs.lemmas.List.Elements.{filter_map-append}
-use Rattle.tta_ops.specs.Units.{Units}
-use Rattle.tta_arch.specs.declared.parts.Template.{Template}
-use Rattle.tta_arch.specs.declared.ends.Dest.{Dest}
+use Rattle.tta_hardware.specs.Cited.{Units, Template, Dest, Machine, numbers, same_dest, Kind, Jumps, Calls, Halts, Brought, target_of, bring, control_of, long_effect, first_some, or_else, Move, Long, Instruction, State, read_source, effect_of, moves_of, long_effects, bit, is_set, value}
 use Rattle.tta_arch.specs.declared.ends.Dest.TheVariants as dest
-use Rattle.tta_arch.specs.Machine.{Machine}
 use Rattle.tta_arch.specs.Legal.{same_place}
-use Rattle.tta_arch.specs.Fields.{numbers, same_dest}
-use Rattle.tta_arch.specs.Effects.{Kind, Jumps, Calls, Halts, Brought, target_of, bring, control_of, long_effect, first_some, or_else}
 use Rattle.tta_image.proofs.EndsLemmas.{same_dest_itself}
-use Rattle.tta_code.specs.declared.code.Move.{Move}
-use Rattle.tta_code.specs.declared.code.Long.{Long}
-use Rattle.tta_code.specs.declared.code.Instruction.{Instruction}
-use Rattle.tta_code.specs.Cycle.{State, read_source, effect_of, moves_of, long_effects}
 use Rattle.tta_circuit.specs.Circuit.{Signal as OfSignal}
-use Rattle.tta_circuit.specs.Meaning.{bit, is_set, value}
 use Rattle.tta_hardware.specs.Signals.{Signal as Named, Word, Acts, Controls, GoalNow, EndsNow, Goal, Ends}
 use Rattle.tta_hardware.specs.Chains.{first_of}
 use Rattle.tta_hardware.specs.Fields.{slot_at}

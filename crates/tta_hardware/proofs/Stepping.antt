@@ -4,15 +4,9 @@ use Rattle.std.specs.Prelude.{is_none, slice_index, fold}
 use Rattle.std.specs.List.{list_any, filter_map}
 use Rattle.std.proofs.lemmas.Option.{none-some, same_Some}
 use Rattle.std.proofs.lemmas.Bool.{false≢true, and_parts}
-use Rattle.tta_ops.specs.Units.{Units}
-use Rattle.tta_arch.specs.Machine.{Machine}
-use Rattle.tta_arch.specs.Rules.{IsMachine}
-use Rattle.tta_arch.specs.Effects.{store_data, store_frame, put_out, take_in, takes, lacks_operand, first_some, control_of}
+use Rattle.tta_hardware.specs.Cited.{Units, Machine, IsMachine, store_data, store_frame, put_out, take_in, takes, lacks_operand, first_some, control_of, Instruction, IsLegalCode, State, Running, Waiting, next, carry_out, or_fault, or_wait, waits, acts, lands, fault_of, first_fault, effects_of, pending_after, clashes, jumps_in_delay, is_set}
 use Rattle.tta_code.specs.declared.code.Code.{Code as Program}
-use Rattle.tta_code.specs.declared.code.Instruction.{Instruction}
-use Rattle.tta_code.specs.Legal.{IsLegalCode}
-use Rattle.tta_code.specs.Cycle.{State, Running, Waiting, next, next_of, carry_out, or_fault, or_wait, waits, acts, lands, fault_of, first_fault, effects_of, result_of, pending_after, clashes, jumps_in_delay}
-use Rattle.tta_circuit.specs.Meaning.{is_set}
+use Rattle.tta_code.specs.Cycle.{next_of, result_of}
 use Rattle.tta_hardware.specs.Signals.{Signal as Named, Pc, Whole, Code, HasHalted, IsOffered, Offer, IsReady, IsReset, Asks, Gives, Goes}
 use Rattle.tta_hardware.specs.Stands.{Hardware, StandsFor, IsSettled, HasClocked, HasComing, HasPorts, is_halted}
 use Rattle.tta_hardware.specs.Laws.{Meet, AreStarted, HasStored, HasSteered, Streams, brought, written_after, started_in}

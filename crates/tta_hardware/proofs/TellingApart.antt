@@ -1,7 +1,7 @@
 -- What tells the signals of a machine apart: their kinds, whose they are, and their numbers.
 use Rattle.std.proofs.Common.{◌≡◌, ℕ, map}
 use Rattle.std.specs.List.{range_with_len}
-use Rattle.tta_arch.specs.Effects.{KeptReg, KeptImm, KeptOperand, KeptRa, KeptPort}
+use Rattle.tta_hardware.specs.Cited.{KeptReg, KeptImm, KeptOperand, KeptRa, KeptPort}
 use Rattle.tta_hardware.specs.Signals.{Field, LongOf, Signal as Named, Pc, HasHalted, Underway, Goal, Ends, Keeps, IsDue, Due, HasBegun, Raw, IsInside, Port, IsOffered, Offer, IsReady, IsReset, Whole, Fetched, Word, Acts, Starts, Trigger, Operand, Controls, GoalNow, EndsNow, Lands, Asks, Gives, Goes, NextPc, Puts, PutWord}
 use Rattle.tta_hardware.proofs.Different.{Apart, risen, numbers_rise, mapped}
 

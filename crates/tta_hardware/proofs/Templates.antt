@@ -2,12 +2,7 @@
 use Rattle.std.proofs.Common.{◌≡◌, ℕ, zero, suc, ◌+◌, ◌≤◌, Bool, true, false, ◌||◌, if◌then◌else◌, List, [], ◌∷◌, length, slice_get, Some, refl, sym, ap, ◌∙◌, arith}
 use Rattle.std.proofs.lemmas.Bool.{eq-eqb, ne_eqb}
 use Rattle.std.proofs.lemmas.Option.{none-some, same_Some}
-use Rattle.tta_ops.specs.Units.{Units}
-use Rattle.tta_arch.specs.declared.parts.Template.{Template}
-use Rattle.tta_arch.specs.Machine.{Machine}
-use Rattle.tta_arch.specs.Joins.{has_bit}
-use Rattle.tta_circuit.specs.Circuit.{Expr, Either}
-use Rattle.tta_circuit.specs.Meaning.{bit, is_set, value}
+use Rattle.tta_hardware.specs.Cited.{Units, Template, Machine, has_bit, Expr, Either, bit, is_set, value}
 use Rattle.tta_hardware.specs.Parts.{template_part, has_template, takes_from, shares_from, long_from}
 
 again : (b : Bool) → is_set (bit b) ≡ b

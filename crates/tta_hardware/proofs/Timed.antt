@@ -5,13 +5,8 @@ use Rattle.std.specs.Option.{option_map_or}
 use Rattle.std.specs.List.{find, enumerate_from}
 use Rattle.std.proofs.lemmas.Option.{none-some, same_Some}
 use Rattle.std.proofs.lemmas.Bool.{eq-eqb, ne_eqb}
-use Rattle.tta_arch.specs.declared.parts.UnitOp.{UnitOp}
+use Rattle.tta_hardware.specs.Cited.{UnitOp, Machine, Start, op_at, has_result, Result', word_due, is_set}
 use Rattle.tta_arch.specs.declared.parts.Unit.{Unit as OpUnit}
-use Rattle.tta_arch.specs.Machine.{Machine}
-use Rattle.tta_arch.specs.Effects.{Start, op_at, has_result}
-use Rattle.tta_code.specs.Cycle.{Result'}
-use Rattle.tta_sim.specs.Results.{word_due}
-use Rattle.tta_circuit.specs.Meaning.{is_set}
 use Rattle.tta_hardware.specs.Signals.{Signal as Named, Starts}
 use Rattle.tta_hardware.specs.Wires.{ops_of, timed, longest_in, longest}
 use Rattle.tta_hardware.specs.Stands.{StartsOne, Starting}

@@ -4,28 +4,14 @@ use Rattle.std.specs.Option.{option_map_or}
 use Rattle.std.proofs.lemmas.Bool.{and_parts, ltb-true, false≢true}
 use Rattle.std.proofs.lemmas.Nat.{pow_pos}
 use Rattle.std.proofs.lemmas.List.{append_assoc, append-nil}
-use Rattle.tta_ops.specs.Units.{Units}
-use Rattle.tta_arch.specs.declared.parts.Template.{Template}
-use Rattle.tta_arch.specs.Machine.{Machine}
-use Rattle.tta_arch.specs.Joins.{has_bit}
-use Rattle.tta_arch.specs.Fields.{template_width, taken_width}
-use Rattle.tta_arch.specs.Rules.{IsMachine}
+use Rattle.tta_hardware.specs.Cited.{Units, Template, Machine, has_bit, template_width, taken_width, IsMachine, Move, Long, Instruction, is_long, is_legal, bits_of, slot_bits, slots_bits, template_code, long_bits, instruction_bits, buses_of, number_of, Expr, is_set, value}
 use Rattle.tta_arch.proofs.Widths.{width_for-enough, no_high}
-use Rattle.tta_code.specs.declared.code.Move.{Move}
-use Rattle.tta_code.specs.declared.code.Long.{Long}
-use Rattle.tta_code.specs.declared.code.Instruction.{Instruction}
-use Rattle.tta_code.specs.Legal.{is_long, is_legal}
-use Rattle.tta_image.specs.Bits.{bits_of, slot_bits, slots_bits, template_code, long_bits, instruction_bits}
-use Rattle.tta_image.specs.Fields.{buses_of}
-use Rattle.tta_image.specs.Decoding.{number_of}
 use Rattle.tta_image.proofs.Unique.{length-bits_of}
 use Rattle.tta_image.proofs.Numbers.{number_of-bits_of_small}
 use Rattle.tta_image.proofs.BitLemmas.{low_whole}
 use Rattle.tta_image.proofs.SlotLemmas.{is_joined_slot}
 use Rattle.tta_image.proofs.InstructionLemmas.{slots_length, IsWhole, whole_of, template_inside, value_fits, length-long_bits}
 use Rattle.tta_image.proofs.InstructionEncoded.{taken_bits-slots_bits}
-use Rattle.tta_circuit.specs.Circuit.{Expr}
-use Rattle.tta_circuit.specs.Meaning.{is_set, value}
 use Rattle.tta_hardware.specs.Fields.{word_of}
 use Rattle.tta_hardware.specs.Parts.{buses_width, template_part, takes_from, shares_from, long_from}
 use Rattle.tta_hardware.proofs.Numbers.{piece_at}

@@ -6,21 +6,11 @@ use Rattle.std.specs.List.{list_all, flat_map, AllByRecursion}
 use Rattle.std.proofs.lemmas.Bool.{and_parts, false≢true, eqb-true, lt-ltb}
 use Rattle.std.proofs.lemmas.Nat.{pow_pos}
 use Rattle.tta_list.proofs.Lists.{list_all_one}
-use Rattle.tta_arch.specs.declared.parts.File.{File}
-use Rattle.tta_arch.specs.declared.parts.Guard.{Guard}
-use Rattle.tta_arch.specs.declared.parts.UnitOp.{UnitOp}
-use Rattle.tta_arch.specs.declared.parts.Op.TheVariants.{Out, Take}
-use Rattle.tta_arch.specs.declared.ends.Source.{Source}
+use Rattle.tta_hardware.specs.Cited.{File, Guard, UnitOp, Out, Take, Source, Dest, Machine, IsMachine, is_file, is_guard, same_op, is_dest_on, numbers, guards_on, sources_on, dests_on, guard_width, payload_width, dest_width, dest_code, KeptReg, KeptImm, KeptRa, KeptOperand, KeptPort, Const, Signal, Not, Join}
 use Rattle.tta_arch.specs.declared.ends.Source.TheVariants as source
-use Rattle.tta_arch.specs.declared.ends.Dest.{Dest}
 use Rattle.tta_arch.specs.declared.ends.Dest.TheVariants as dest
-use Rattle.tta_arch.specs.Machine.{Machine}
-use Rattle.tta_arch.specs.Rules.{IsMachine, is_file, is_guard, same_op}
-use Rattle.tta_arch.specs.Joins.{is_dest_on}
-use Rattle.tta_arch.specs.Fields.{numbers, guards_on, sources_on, dests_on, guard_width, payload_width, dest_width, dest_code}
-use Rattle.tta_arch.specs.Effects.{KeptReg, KeptImm, KeptRa, KeptOperand, KeptPort, width_of}
+use Rattle.tta_arch.specs.Effects.{width_of}
 use Rattle.tta_image.proofs.EndsLemmas.{dest_code_inside}
-use Rattle.tta_circuit.specs.Circuit.{Const, Signal, Not, Join}
 use Rattle.tta_hardware.specs.Signals.{GuardOf, IsShort, SourceOf, ShortOf, DestOf, HasHalted, Underway, Goal, Ends, Keeps, HasBegun, Raw, IsInside, Port, IsOffered, IsReady, IsReset, Fetched, Word, Acts, Starts, Trigger, Operand, Controls, GoalNow, Lands, Asks, Gives, Goes, Expression}
 use Rattle.tta_hardware.specs.Chains.{first_of, pick_from}
 use Rattle.tta_hardware.specs.Wires.{loads, read_word, fresh, never, nothing, source_word, passing, hits, buses_to, reached, arrivals, ops_of, all_ops, made_of}

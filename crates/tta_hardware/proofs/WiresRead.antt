@@ -4,19 +4,10 @@ use Rattle.std.specs.Prelude.{is_some, if◌then◌else◌, nat_lt, nat_le}
 use Rattle.std.specs.Option.{option_map_or}
 use Rattle.std.specs.List.{flat_map}
 use Rattle.std.proofs.lemmas.Bool.{and_parts, and_from, ltb-true, lt-ltb, le-leb, false≢true, eq-eqb, cases_lt}
-use Rattle.tta_arch.specs.declared.parts.Op.TheVariants.{Out, Take}
-use Rattle.tta_arch.specs.declared.parts.Guard.{Guard}
-use Rattle.tta_arch.specs.declared.parts.File.{File}
-use Rattle.tta_arch.specs.declared.parts.UnitOp.{UnitOp}
-use Rattle.tta_arch.specs.declared.ends.Source.{Source}
+use Rattle.tta_hardware.specs.Cited.{Out, Take, Guard, File, UnitOp, Source, Machine, IsMachine, is_guard, same_op, is_source_on, all_sources, guards_on, sources_on, guard_width, payload_width, KeptReg, KeptImm, KeptOperand, KeptPort, Const, Signal, Join, Not, Equal}
 use Rattle.tta_arch.specs.declared.ends.Source.TheVariants as source
 use Rattle.tta_arch.specs.declared.ends.Dest.TheVariants as dest
-use Rattle.tta_arch.specs.Machine.{Machine}
-use Rattle.tta_arch.specs.Rules.{IsMachine, is_guard, same_op}
-use Rattle.tta_arch.specs.Joins.{is_source_on}
-use Rattle.tta_arch.specs.Fields.{all_sources, guards_on, sources_on, guard_width, payload_width}
-use Rattle.tta_arch.specs.Effects.{KeptReg, KeptImm, KeptOperand, KeptPort, width_of}
-use Rattle.tta_circuit.specs.Circuit.{Const, Signal, Join, Not, Equal}
+use Rattle.tta_arch.specs.Effects.{width_of}
 use Rattle.tta_hardware.specs.Signals.{GuardOf, IsShort, SourceOf, ShortOf, Signal as Named, Pc, HasHalted, Underway, Goal, Ends, Keeps, IsDue, Due, HasBegun, Raw, IsInside, Port, IsOffered, Offer, IsReady, IsReset, Whole, Fetched, Word, Acts, Starts, Trigger, Operand, Controls, GoalNow, EndsNow, Lands, Asks, Gives, Goes, NextPc, Puts, PutWord}
 use Rattle.tta_hardware.specs.Chains.{first_of, pick_from}
 use Rattle.tta_hardware.specs.Wires.{never, nothing, source_word, passing, hits, buses_to, reached, arrivals, ops_of, made_of}

@@ -4,14 +4,9 @@ use Rattle.std.specs.Prelude.{if◌then◌else◌, option_map, option_and_then}
 use Rattle.std.specs.Option.{option_map_or, option_or}
 use Rattle.std.specs.List.{find, filter_map, cons_option}
 use Rattle.std.proofs.lemmas.Bool.{and_parts, eqb-true}
-use Rattle.tta_arch.specs.declared.ends.Dest.{Dest}
+use Rattle.tta_hardware.specs.Cited.{Dest, Machine, same_dest, Place, KeptReg, KeptImm, KeptOperand, KeptRa, Written, Brought, kept, write_of, target_of, Move, Instruction, is_set}
 use Rattle.tta_arch.specs.declared.ends.Dest.TheVariants as dest
-use Rattle.tta_arch.specs.Machine.{Machine}
-use Rattle.tta_arch.specs.Fields.{same_dest}
-use Rattle.tta_arch.specs.Effects.{Place, KeptReg, KeptImm, KeptOperand, KeptRa, Written, Brought, kept, same_place, width_of, write_of, target_of}
-use Rattle.tta_code.specs.declared.code.Move.{Move}
-use Rattle.tta_code.specs.declared.code.Instruction.{Instruction}
-use Rattle.tta_circuit.specs.Meaning.{is_set}
+use Rattle.tta_arch.specs.Effects.{same_place, width_of}
 use Rattle.tta_hardware.specs.Signals.{Signal as Named, Word, Acts}
 use Rattle.tta_hardware.specs.Fields.{slot_at}
 use Rattle.tta_hardware.specs.Laws.{carried}

@@ -1,15 +1,8 @@
 -- A machine with its code as a circuit.
 use Rattle.std.specs.Prelude.{ℕ, ◌-◌, Bool, nat_lt, List, [], ◌∷◌, ◌++◌, length, map, replicate, None, Some, if◌then◌else◌}
 use Rattle.std.specs.List.{flat_map, enumerate_from, range_with_len}
-use Rattle.tta_circuit.specs.Circuit.{Const, Signal, Both, Below, Wire, WritePort, Memory, Circuit}
+use Rattle.tta_hardware.specs.Cited.{Const, Signal, Both, Below, Wire, WritePort, Memory, Circuit, UnitOp, Op, Stw, Stf, Machine, same_op, KeptReg, KeptImm, KeptOperand, KeptRa, KeptPort, numbers, guard_width, dest_width, template_width, word_width}
 use Rattle.tta_arch.specs.declared.parts.Unit.{Unit as OpUnit}
-use Rattle.tta_arch.specs.declared.parts.UnitOp.{UnitOp}
-use Rattle.tta_arch.specs.declared.parts.Op.{Op}
-use Rattle.tta_arch.specs.declared.parts.Op.TheVariants.{Stw, Stf}
-use Rattle.tta_arch.specs.Machine.{Machine}
-use Rattle.tta_arch.specs.Rules.{same_op}
-use Rattle.tta_arch.specs.Effects.{KeptReg, KeptImm, KeptOperand, KeptRa, KeptPort}
-use Rattle.tta_arch.specs.Fields.{numbers, guard_width, dest_width, template_width, word_width}
 use Rattle.tta_code.specs.declared.code.Code.{Code as Program}
 use Rattle.tta_hardware.specs.Signals.{Field, GuardOf, IsShort, SourceOf, ShortOf, DestOf, TemplateOf, LongOf, Store, Code, Data, Frame, Signal as Named, Pc, HasHalted, Underway, Goal, Ends, Keeps, IsDue, Due, HasBegun, Raw, IsInside, Port, IsOffered, Offer, IsReady, IsReset, Whole, Fetched, Word, Acts, Starts, Trigger, Operand, Controls, GoalNow, EndsNow, Lands, Asks, Gives, Goes, NextPc, Puts, PutWord}
 use Rattle.tta_hardware.specs.Fields.{word_of, field_width}

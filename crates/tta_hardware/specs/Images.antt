@@ -1,12 +1,7 @@
 -- Runs of the circuit whose memory of code has the bits of an image.
 use Rattle.std.specs.Prelude.{◌≡◌, ℕ, ◌<◌, false, List, drop, length}
-use Rattle.tta_ops.specs.Units.{Units}
-use Rattle.tta_arch.specs.Machine.{Machine}
-use Rattle.tta_arch.specs.Rules.{IsMachine}
+use Rattle.tta_hardware.specs.Cited.{Units, Machine, IsMachine, State, cyc, Image, is_set}
 use Rattle.tta_code.specs.Whole.{Whole as CodeWithData}
-use Rattle.tta_code.specs.Cycle.{State, cyc}
-use Rattle.tta_image.specs.Image.{Image}
-use Rattle.tta_circuit.specs.Meaning.{is_set}
 use Rattle.tta_hardware.specs.Signals.{Data, Frame, Signal as Named, HasHalted}
 use Rattle.tta_hardware.specs.Hardware.{circuit_with}
 use Rattle.tta_hardware.specs.Stands.{is_halted}

@@ -2,27 +2,11 @@
 use Rattle.std.specs.Prelude.{◌≡◌, ℕ, ◌+◌, ◌%◌, ◌^◌, ◌<◌, ◌==◌, true, is_some, false, List, ◌++◌, length, map, Option, None, Some, slice_get, slice_index, slice_set, fold, [], ◌∷◌, option_and_then, if◌then◌else◌}
 use Rattle.std.specs.Option.{option_map_or}
 use Rattle.std.specs.List.{list_any, filter_map, AllByRecursion}
-use Rattle.tta_ops.specs.Units.{Units}
-use Rattle.tta_arch.specs.Machine.{Machine}
-use Rattle.tta_arch.specs.Rules.{are_different}
-use Rattle.tta_arch.specs.Effects.{Start, op_at, has_result, takes}
-use Rattle.tta_arch.specs.declared.parts.Op.TheVariants.{Ldw, Stw, Ldf, Stf}
-use Rattle.tta_arch.specs.declared.parts.UnitOp.{UnitOp}
-use Rattle.tta_arch.specs.Rules.{IsMachine, same_op}
+use Rattle.tta_hardware.specs.Cited.{Units, Machine, are_different, Start, op_at, has_result, takes, Ldw, Stw, Ldf, Stf, UnitOp, IsMachine, same_op, joins, Brought, Written, is_active, has_unset_guard, target_of, bring, write_of, start_of, lacks_operand, Kind, first_some, control_of, store_data, store_frame, put_out, take_in, numbers, guard_width, dest_width, template_width, guard_code, source_code, Long, Move, Instruction, State, read_source, effect_of, effects_of, moves_of, reads_unset_register, reads_unset_port, Running, jumps_in_delay, pending_after, lands, is_legal, IsLegalCode, left, WritePort, is_set, value}
 use Rattle.tta_hardware.specs.Hardware.{store_port}
-use Rattle.tta_arch.specs.Joins.{joins}
-use Rattle.tta_arch.specs.Effects.{Brought, Written, is_active, has_unset_guard, target_of, bring, write_of, start_of, lacks_operand, Kind, first_some, control_of, store_data, store_frame, put_out, take_in}
-use Rattle.tta_arch.specs.Fields.{numbers, guard_width, dest_width, template_width, guard_code, source_code}
 use Rattle.tta_arch.specs.declared.ends.Source.TheVariants as source
-use Rattle.tta_code.specs.declared.code.Long.{Long}
-use Rattle.tta_code.specs.declared.code.Move.{Move}
-use Rattle.tta_code.specs.declared.code.Instruction.{Instruction}
-use Rattle.tta_code.specs.Cycle.{State, result_of, read_source, effect_of, effects_of, moves_of, reads_unset_register, reads_unset_port, Running, jumps_in_delay, pending_after, lands}
+use Rattle.tta_code.specs.Cycle.{result_of}
 use Rattle.tta_code.specs.declared.code.Code.{Code as Program}
-use Rattle.tta_code.specs.Legal.{is_legal, IsLegalCode}
-use Rattle.tta_list.specs.Input.{left}
-use Rattle.tta_circuit.specs.Circuit.{WritePort}
-use Rattle.tta_circuit.specs.Meaning.{is_set, value}
 use Rattle.tta_hardware.specs.Signals.{Field, GuardOf, IsShort, SourceOf, ShortOf, DestOf, TemplateOf, LongOf, Signal as Named, Store, Code, Data, Frame, Pc, Whole, HasHalted, Goal, Ends, Controls, GoalNow, EndsNow, Asks, Goes, Puts, PutWord, Offer, Fetched, Word, Acts, Starts}
 use Rattle.tta_hardware.specs.Fields.{word_of, slot_at, field_of, short_mark}
 use Rattle.tta_hardware.specs.Wires.{fetched}

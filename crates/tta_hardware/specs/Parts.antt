@@ -1,12 +1,7 @@
 -- The fields of an instruction as parts of its word.
 use Rattle.std.specs.Prelude.{ℕ, zero, suc, ◌+◌, ◌-◌, ◌^◌, ◌==◌, min, ◌&&◌, nat_lt, if◌then◌else◌, List, [], ◌∷◌, length}
 use Rattle.std.specs.List.{sum_by, range_with_len}
-use Rattle.tta_arch.specs.declared.parts.Template.{Template}
-use Rattle.tta_arch.specs.Machine.{Machine}
-use Rattle.tta_arch.specs.Joins.{has_bit}
-use Rattle.tta_arch.specs.Fields.{guard_width, short_width, payload_width, dest_width, bus_width, template_width}
-use Rattle.tta_image.specs.Decoding.{is_signed}
-use Rattle.tta_circuit.specs.Circuit.{Expr, Const, Slice, Join, Select, Either, Equal}
+use Rattle.tta_hardware.specs.Cited.{Template, Machine, has_bit, guard_width, short_width, payload_width, dest_width, bus_width, template_width, is_signed, Expr, Const, Slice, Join, Select, Either, Equal}
 use Rattle.tta_hardware.specs.Signals.{Field, GuardOf, IsShort, SourceOf, ShortOf, DestOf, TemplateOf, LongOf}
 
 -- ---- where the parts stand

@@ -1,13 +1,7 @@
 -- The pins by which words come and go.
 use Rattle.std.specs.Prelude.{◌≡◌, ℕ, true, false, ◌&&◌, List, length}
-use Rattle.tta_ops.specs.Units.{Units}
-use Rattle.tta_arch.specs.Machine.{Machine}
-use Rattle.tta_arch.specs.Rules.{IsMachine}
+use Rattle.tta_hardware.specs.Cited.{Units, Machine, IsMachine, IsLegalCode, State, Running, next, cyc, Signal, Not, Both, is_set, value}
 use Rattle.tta_code.specs.declared.code.Code.{Code as Program}
-use Rattle.tta_code.specs.Legal.{IsLegalCode}
-use Rattle.tta_code.specs.Cycle.{State, Running, next, cyc}
-use Rattle.tta_circuit.specs.Circuit.{Signal, Not, Both}
-use Rattle.tta_circuit.specs.Meaning.{is_set, value}
 use Rattle.tta_hardware.specs.Signals.{Signal as Named, Expression, HasHalted, IsOffered, IsReady, IsReset, Asks, Gives, Goes, Puts}
 use Rattle.tta_hardware.specs.Hardware.{circuit_of}
 use Rattle.tta_hardware.specs.Stands.{Hardware, StandsFor, IsSettled}

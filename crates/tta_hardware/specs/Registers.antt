@@ -2,13 +2,9 @@
 use Rattle.std.specs.Prelude.{ℕ, ◌-◌, ◌+◌, ◌==◌, ◌&&◌, if◌then◌else◌, List, map, filter, Bool, true, false}
 use Rattle.std.specs.Option.{option_map_or}
 use Rattle.std.specs.List.{enumerate_from}
-use Rattle.tta_circuit.specs.Circuit.{Join, Const, Signal, Slice, Select, Both, Either, Equal, Below, Plus, Read, Register}
+use Rattle.tta_hardware.specs.Cited.{Join, Const, Signal, Slice, Select, Both, Either, Equal, Below, Plus, Read, Register, Op, Ldf, Machine, Place, KeptReg, KeptImm, KeptOperand, KeptRa, KeptPort, op_at, template_width, word_width}
 use Rattle.tta_arch.specs.declared.ends.Dest.TheVariants as dest
-use Rattle.tta_arch.specs.declared.parts.Op.{Op}
-use Rattle.tta_arch.specs.declared.parts.Op.TheVariants.{Ldf}
-use Rattle.tta_arch.specs.Machine.{Machine}
-use Rattle.tta_arch.specs.Effects.{Place, KeptReg, KeptImm, KeptOperand, KeptRa, KeptPort, op_at, width_of}
-use Rattle.tta_arch.specs.Fields.{template_width, word_width}
+use Rattle.tta_arch.specs.Effects.{width_of}
 use Rattle.tta_hardware.specs.Signals.{TemplateOf, LongOf, Store, Code, Data, Frame, Signal as Named, Pc, Whole, IsReset, HasHalted, Underway, Goal, Ends, Keeps, IsDue, Due, HasBegun, Raw, IsInside, Port, Starts, Trigger, Fetched, Word, Operand, Controls, NextPc, GoalNow, EndsNow, Lands, Goes, Expression}
 use Rattle.tta_hardware.specs.Chains.{first_of}
 use Rattle.tta_hardware.specs.Wires.{never, nothing, next_pc, hits, buses_to, reached, begins, made, is_coming, coming}

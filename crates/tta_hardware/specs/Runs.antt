@@ -1,13 +1,7 @@
 -- Runs of a circuit, and runs of its machine.
 use Rattle.std.specs.Prelude.{◌≡◌, ℕ, zero, suc, ◌+◌, ◌<◌, ◌≤◌, true, false, not, ◌||◌, List, [], ◌∷◌, ◌++◌, length, drop, ◌&&◌, if◌then◌else◌}
-use Rattle.tta_ops.specs.Units.{Units}
-use Rattle.tta_arch.specs.Machine.{Machine}
-use Rattle.tta_arch.specs.Rules.{IsMachine}
+use Rattle.tta_hardware.specs.Cited.{Units, Machine, IsMachine, IsLegalCode, State, Waiting, next, cyc, Circuit, bit, is_set, settled, held_from, powered}
 use Rattle.tta_code.specs.declared.code.Code.{Code as Program}
-use Rattle.tta_code.specs.Legal.{IsLegalCode}
-use Rattle.tta_code.specs.Cycle.{State, Waiting, next, cyc}
-use Rattle.tta_circuit.specs.Circuit.{Circuit}
-use Rattle.tta_circuit.specs.Meaning.{bit, is_set, settled, held_from, powered}
 use Rattle.tta_hardware.specs.Signals.{Signal as Named, Store, IsOffered, IsReady, IsReset, Asks, Gives, Goes, Puts, PutWord, same_signal, same_store}
 use Rattle.tta_hardware.specs.Hardware.{circuit_of}
 use Rattle.tta_hardware.specs.Stands.{Hardware, StandsFor, is_halted}

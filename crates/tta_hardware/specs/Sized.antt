@@ -1,15 +1,8 @@
 -- The widths of a machine's signals and memories, and that its circuit keeps them and is plain.
 use Rattle.std.specs.Prelude.{◌≡◌, ℕ, ◌<◌, Bool, true, List, length, map}
-use Rattle.tta_arch.specs.Machine.{Machine}
-use Rattle.tta_arch.specs.Rules.{IsMachine}
-use Rattle.tta_arch.specs.Fields.{word_width}
-use Rattle.tta_arch.specs.Effects.{Place}
-use Rattle.tta_arch.specs.declared.parts.Op.{Op}
-use Rattle.tta_circuit.specs.Circuit.{WritePort}
-use Rattle.tta_circuit.specs.Widths.{width_of, is_sized}
-use Rattle.tta_circuit.specs.Plain.{is_plain, IsPlain}
-use Rattle.tta_circuit.specs.Order.{is_ordered}
-use Rattle.tta_circuit.specs.Closed.{IsClosed, are_apart, signals_of}
+use Rattle.tta_hardware.specs.Cited.{Machine, IsMachine, word_width, Place, Op, WritePort, is_sized, is_plain, IsPlain, is_ordered, IsClosed, signals_of}
+use Rattle.tta_circuit.specs.Widths.{width_of}
+use Rattle.tta_circuit.specs.Closed.{are_apart}
 use Rattle.tta_code.specs.declared.code.Code.{Code as Program}
 use Rattle.tta_hardware.specs.Signals.{Field, Store, Code, Data, Frame, Signal as Named, Pc, HasHalted, Underway, Goal, Ends, Keeps, IsDue, Due, HasBegun, Raw, IsInside, Port, IsOffered, Offer, IsReady, IsReset, Whole, Word, Acts, Starts, Trigger, Operand, Controls, GoalNow, EndsNow, Lands, Asks, Gives, Goes, NextPc, Puts, PutWord, Expression, same_signal, same_store}
 use Rattle.tta_hardware.specs.Wires.{made_of, fetched}

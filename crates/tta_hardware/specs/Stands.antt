@@ -2,16 +2,8 @@
 use Rattle.std.specs.Prelude.{◌≡◌, ℕ, ◌+◌, ◌%◌, ◌^◌, ◌<◌, ◌≤◌, ◌==◌, Bool, true, false, ◌&&◌, nat_lt, if◌then◌else◌, List, length, map, Option, None, Some, is_some, slice_get, slice_index}
 use Rattle.std.specs.Option.{option_map_or}
 use Rattle.std.specs.List.{find}
-use Rattle.tta_ops.specs.Units.{Units}
-use Rattle.tta_arch.specs.declared.parts.UnitOp.{UnitOp}
-use Rattle.tta_arch.specs.Machine.{Machine}
-use Rattle.tta_arch.specs.Fields.{guard_width, dest_width, template_width}
-use Rattle.tta_arch.specs.Effects.{Place, KeptReg, KeptImm, KeptOperand, KeptRa, KeptPort, Kind, Halts, kept, op_at, Start, operand_word}
+use Rattle.tta_hardware.specs.Cited.{Units, UnitOp, Machine, guard_width, dest_width, template_width, Place, KeptReg, KeptImm, KeptOperand, KeptRa, KeptPort, Kind, Halts, kept, op_at, Start, operand_word, Instruction, State, Pending, Outcome, Halted, port, due_at, word_due, Held, is_set, value}
 use Rattle.tta_code.specs.declared.code.Code.{Code as Program}
-use Rattle.tta_code.specs.declared.code.Instruction.{Instruction}
-use Rattle.tta_code.specs.Cycle.{State, Pending, Outcome, Halted, port}
-use Rattle.tta_sim.specs.Results.{due_at, word_due}
-use Rattle.tta_circuit.specs.Meaning.{Held, is_set, value}
 use Rattle.tta_hardware.specs.Signals.{Field, GuardOf, IsShort, SourceOf, ShortOf, DestOf, TemplateOf, LongOf, Store, Code, Data, Frame, Signal as Named, Pc, HasHalted, Underway, Goal, Ends, Keeps, IsDue, Due, HasBegun, Raw, IsInside, Port, Whole, Fetched, Word, Acts, Starts, Trigger, Operand, Controls, GoalNow, EndsNow, Lands, Asks, Gives, Goes, NextPc, Puts, PutWord}
 use Rattle.tta_hardware.specs.Fields.{word_of}
 use Rattle.tta_hardware.specs.Wires.{made_of, is_load, loads, longest}

@@ -1,13 +1,7 @@
 -- What a clock of the circuit is to a cycle of the machine.
 use Rattle.std.specs.Prelude.{◌≡◌, ℕ, Bool, true, false, not, ◌&&◌, ◌||◌, List, [], ◌∷◌, ◌++◌, Some, slice_get, if◌then◌else◌}
-use Rattle.tta_list.specs.Input.{left}
-use Rattle.tta_ops.specs.Units.{Units}
-use Rattle.tta_arch.specs.Machine.{Machine}
-use Rattle.tta_arch.specs.Rules.{IsMachine}
+use Rattle.tta_hardware.specs.Cited.{left, Units, Machine, IsMachine, IsLegalCode, State, Outcome, Running, Halted, Waiting, Fault, next, is_set}
 use Rattle.tta_code.specs.declared.code.Code.{Code as Program}
-use Rattle.tta_code.specs.Legal.{IsLegalCode}
-use Rattle.tta_code.specs.Cycle.{State, Outcome, Running, Halted, Waiting, Fault, next}
-use Rattle.tta_circuit.specs.Meaning.{is_set}
 use Rattle.tta_hardware.specs.Signals.{Signal as Named, IsOffered, Offer, IsReady, IsReset, Asks, Gives, Goes, Puts, PutWord}
 use Rattle.tta_hardware.specs.Stands.{Hardware, StandsFor, IsSettled, HasClocked}
 use Rattle.tta_hardware.specs.Laws.{HasStored}

@@ -1,12 +1,8 @@
 -- The words of a machine's circuit stay within their widths.
 use Rattle.std.specs.Prelude.{ℕ, ◌<◌, ◌^◌, List}
 use Rattle.std.specs.List.{AllByRecursion}
-use Rattle.tta_ops.specs.Units.{Units}
-use Rattle.tta_arch.specs.Machine.{Machine}
-use Rattle.tta_arch.specs.Rules.{IsMachine}
+use Rattle.tta_hardware.specs.Cited.{Units, Machine, IsMachine, IsLegalCode, IsWithin}
 use Rattle.tta_code.specs.declared.code.Code.{Code as Program}
-use Rattle.tta_code.specs.Legal.{IsLegalCode}
-use Rattle.tta_circuit.specs.Laws.{IsWithin}
 use Rattle.tta_hardware.specs.Signals.{Signal as Named, IsOffered, Offer, IsReady, IsReset}
 use Rattle.tta_hardware.specs.Sized.{signal_width, store_width}
 use Rattle.tta_hardware.specs.Runs.{hardware, signals}

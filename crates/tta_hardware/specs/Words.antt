@@ -1,16 +1,9 @@
 -- The words of code, and the bits of an image that are these words.
 use Rattle.std.specs.Prelude.{◌≡◌, ℕ, ◌-◌, ◌*◌, ◌<◌, ◌^◌, List, ◌++◌, length, map, replicate, slice_get, slice_index, Some}
 use Rattle.std.specs.List.{AllByRecursion}
-use Rattle.tta_arch.specs.Machine.{Machine}
-use Rattle.tta_arch.specs.Rules.{IsMachine}
-use Rattle.tta_arch.specs.Fields.{numbers, word_width}
+use Rattle.tta_hardware.specs.Cited.{Machine, IsMachine, numbers, word_width, Instruction, IsLegalCode, Image, bits_in, field, word_count, body_in}
 use Rattle.tta_code.specs.declared.code.Code.{Code}
-use Rattle.tta_code.specs.declared.code.Instruction.{Instruction}
 use Rattle.tta_code.specs.Whole.{Whole}
-use Rattle.tta_code.specs.Legal.{IsLegalCode}
-use Rattle.tta_image.specs.Image.{Image}
-use Rattle.tta_image.specs.Decoding.{bits_in, field}
-use Rattle.tta_image.specs.Reading.{word_count, body_in}
 use Rattle.tta_hardware.specs.Fields.{word_of}
 use Rattle.tta_hardware.specs.Hardware.{code_words}
 

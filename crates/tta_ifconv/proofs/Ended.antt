@@ -1,10 +1,7 @@
 -- A run that has ended stays.
 use Rattle.std.proofs.Common.{◌≡◌, ◌≤◌, ℕ, true, sym, ap, ◌∙◌}
 use Rattle.std.proofs.lemmas.Bool.{true≢false}
-use Rattle.tta_list.specs.Iterate.{iterate}
-use Rattle.tta_ops.specs.Units.{Units}
-use Rattle.tta_program.specs.Program.{Program}
-use Rattle.tta_program.specs.Sequential.{State, next}
+use Rattle.tta_ifconv.specs.Cited.{iterate, Units, Program, State, next}
 use Rattle.tta_program.proofs.Halted.{later_end}
 use Rattle.tta_ifconv.specs.Statement.{has_ended}
 

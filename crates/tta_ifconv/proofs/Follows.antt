@@ -2,14 +2,7 @@
 use Rattle.std.proofs.Common.{◌≡◌, ◌≤◌, ◌+◌, ℕ, Bool, List, [], ◌∷◌, Option, Some, None, true, false, refl, sym, ap, ◌∙◌, subst, arith, lit≤, map}
 use Rattle.std.specs.Prelude.{if◌then◌else◌, not, slice_get, slice_set, is_none, ◌&&◌, codes}
 use Rattle.std.specs.Option.{option_map_or}
-use Rattle.tta_list.specs.Iterate.{iterate}
-use Rattle.tta_ops.specs.Units.{Units}
-use Rattle.tta_program.specs.declared.operand.Rel.{Rel}
-use Rattle.tta_program.specs.declared.operand.Rel.TheVariants.{Eq, Ne, Lt, Ge, Ltu, Geu}
-use Rattle.tta_program.specs.declared.step.Step.{Step}
-use Rattle.tta_program.specs.declared.step.Step.TheVariants.{Copy, If, When}
-use Rattle.tta_program.specs.Program.{Program}
-use Rattle.tta_program.specs.Sequential.{State, Frame, Outcome, Running, Halted, Waiting, step_at, holds, is_odd, operand, next, next_of, go_on, carry_out, goes_through, waits, assigns, goes_to}
+use Rattle.tta_ifconv.specs.Cited.{iterate, Units, Rel, Eq, Ne, Lt, Ge, Ltu, Geu, Step, Copy, If, When, Program, State, Frame, Outcome, Running, Halted, Waiting, step_at, holds, is_odd, operand, next, next_of, go_on, carry_out, goes_through, waits, assigns, goes_to}
 use Rattle.tta_ifconv.specs.Triangles.{opposite, is_triangle, place, joined, renumbered}
 use Rattle.tta_ifconv.specs.Converted.{Converted}
 use Rattle.tta_ifconv.proofs.Places.{Triangle, triangle_of, after_triangle, place_after}

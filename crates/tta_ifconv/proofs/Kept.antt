@@ -5,15 +5,9 @@ use Rattle.std.specs.Option.{option_map_or}
 use Rattle.std.specs.List.{list_all, list_any, sum_by, AllByRecursion}
 use Rattle.std.proofs.lemmas.Bool.{and_from, ltb-true, lt-ltb, eq-eqb, cases_lt}
 use Rattle.std.proofs.lemmas.List.Sums.{sum_by-cons}
-use Rattle.tta_list.specs.Legs.{AllPairs}
+use Rattle.tta_ifconv.specs.Cited.{AllPairs, Src, Step, Copy, Apply, Load, Store, Put, Take, If, Goto, When, Invoke, Return, Halt, End, Proc, Program, IsProgram, IsProc, is_src, is_call, is_step, is_end, ends_once, calls_proc, calls, Reaches, ByCall, ByMore, is_datum, are_apart}
 use Rattle.tta_list.proofs.Lists.{list_all_one, all_from as all_from_each, any_there as any_from_one}
 use Rattle.tta_list.proofs.Tests.{and_left, and_right}
-use Rattle.tta_program.specs.declared.operand.Src.{Src}
-use Rattle.tta_program.specs.declared.step.Step.{Step}
-use Rattle.tta_program.specs.declared.step.Step.TheVariants.{Copy, Apply, Load, Store, Put, Take, If, Goto, When, Invoke, Return, Halt, End}
-use Rattle.tta_program.specs.declared.program.Proc.{Proc}
-use Rattle.tta_program.specs.Program.{Program}
-use Rattle.tta_program.specs.Rules.{IsProgram, IsProc, is_src, is_call, is_step, is_end, ends_once, calls_proc, calls, Reaches, ByCall, ByMore, is_datum, are_apart}
 use Rattle.tta_ifconv.specs.Triangles.{names, place, joined, renumbered, becomes}
 use Rattle.tta_ifconv.specs.Converted.{IsConverted, Converted}
 use Rattle.tta_ifconv.proofs.Lists.{one_from_any}

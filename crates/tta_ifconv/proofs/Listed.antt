@@ -6,12 +6,7 @@ use Rattle.std.specs.List.{sum_by}
 use Rattle.std.proofs.lemmas.List.Sums.{sum_by-cons, sum_by-append}
 use Rattle.std.proofs.Math.Seq.{take-suc, take-length}
 use Rattle.std.proofs.lemmas.Option.{slice_get_within, get_or_from_slice_get}
-use Rattle.tta_list.specs.Legs.{AllPairs}
-use Rattle.tta_program.specs.declared.step.Step.{Step}
-use Rattle.tta_program.specs.declared.step.Step.TheVariants.{Copy, If, Goto}
-use Rattle.tta_program.specs.declared.program.Proc.{Proc}
-use Rattle.tta_program.specs.Program.{Program}
-use Rattle.tta_program.specs.Sizes.{args_in}
+use Rattle.tta_ifconv.specs.Cited.{AllPairs, Step, Copy, If, Goto, Proc, Program, args_in}
 use Rattle.tta_ifconv.specs.Triangles.{is_dropped, place, renumbered, becomes}
 use Rattle.tta_ifconv.specs.Tables.{AreConverted}
 use Rattle.tta_ifconv.specs.Converted.{IsConverted, Converted}

@@ -2,12 +2,8 @@
 use Rattle.std.proofs.Common.{◌≡◌, ◌+◌, ℕ, Bool, List, [], ◌∷◌, ◌++◌, Option, Some, None, true, false, length, refl, sym, ap, ◌∙◌, subst, map}
 use Rattle.std.specs.Prelude.{if◌then◌else◌, ◌-◌, replicate, slice_get, slice_index, slice_set, drop}
 use Rattle.std.proofs.lemmas.Bool.{eq-eqb}
-use Rattle.tta_ops.specs.Units.{Units}
-use Rattle.tta_program.specs.declared.operand.Src.{Src}
-use Rattle.tta_program.specs.declared.step.Step.{Step}
-use Rattle.tta_program.specs.declared.step.Step.TheVariants.{Copy, Apply, Load, Store, Put, Take, If, Goto, When, Invoke, Return, Halt, End}
-use Rattle.tta_program.specs.Program.{Program}
-use Rattle.tta_program.specs.Sequential.{State, Frame, step_at, holds, operand, enter, carry_out, takes, returns, take_value, assigns, goes_to}
+use Rattle.tta_ifconv.specs.Cited.{Units, Src, Step, Copy, Apply, Load, Store, Put, Take, If, Goto, When, Invoke, Return, Halt, End, Program, State, Frame, step_at, holds, operand, enter, carry_out, takes, take_value, assigns, goes_to}
+use Rattle.tta_program.specs.Sequential.{returns}
 use Rattle.tta_ifconv.specs.Triangles.{names, is_triangle, is_dropped, place, joined, renumbered}
 use Rattle.tta_ifconv.specs.Converted.{Converted}
 use Rattle.tta_ifconv.proofs.Places.{target_stays, next_stays, no_triangle, place_next}

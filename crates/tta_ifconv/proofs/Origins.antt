@@ -4,11 +4,7 @@ use Rattle.std.specs.Prelude.{not, if◌then◌else◌, slice_get}
 use Rattle.std.specs.Option.{option_map_or}
 use Rattle.std.proofs.lemmas.Bool.{eqb-true, eq-eqb, and_from}
 use Rattle.std.proofs.lemmas.Option.{slice_get_within}
-use Rattle.tta_program.specs.declared.operand.Src.{Src}
-use Rattle.tta_program.specs.declared.operand.Rel.{Rel}
-use Rattle.tta_program.specs.declared.step.Step.{Step}
-use Rattle.tta_program.specs.declared.step.Step.TheVariants.{Copy, Apply, Load, Store, Put, Take, If, Goto, When, Invoke, Return, Halt, End}
-use Rattle.tta_program.specs.declared.program.Proc.{Proc}
+use Rattle.tta_ifconv.specs.Cited.{Src, Rel, Step, Copy, Apply, Load, Store, Put, Take, If, Goto, When, Invoke, Return, Halt, End, Proc}
 use Rattle.tta_ifconv.specs.Triangles.{names, is_target, skips, is_copy, is_triangle, is_dropped, place, joined, renumbered, becomes, opposite}
 use Rattle.tta_ifconv.specs.Converted.{IsConverted}
 use Rattle.tta_ifconv.proofs.Lists.{stands_within, one_from_any}

@@ -4,11 +4,7 @@ use Rattle.std.specs.Prelude.{slice_get, is_some}
 use Rattle.std.specs.Option.{option_map_or}
 use Rattle.std.proofs.lemmas.Bool.{cases_lt}
 use Rattle.std.proofs.lemmas.Option.{slice_get_past}
-use Rattle.tta_list.specs.Legs.{AllPairs}
-use Rattle.tta_program.specs.declared.step.Step.{Step}
-use Rattle.tta_program.specs.declared.program.Proc.{Proc}
-use Rattle.tta_program.specs.Program.{Program}
-use Rattle.tta_program.specs.Sequential.{step_at}
+use Rattle.tta_ifconv.specs.Cited.{AllPairs, Step, Proc, Program, step_at}
 use Rattle.tta_ifconv.specs.Triangles.{is_dropped, place, becomes}
 use Rattle.tta_ifconv.specs.Converted.{IsConverted, Converted}
 use Rattle.tta_list.proofs.Lists.{some_within}

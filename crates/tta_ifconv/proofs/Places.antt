@@ -4,10 +4,7 @@ use Rattle.std.specs.Prelude.{◌&&◌, not, if◌then◌else◌, slice_get}
 use Rattle.std.specs.Option.{option_map_or}
 use Rattle.std.proofs.lemmas.Bool.{eqb-true, eq-eqb, cases_lt, not-true}
 use Rattle.tta_list.proofs.Tests.{and_left, and_right}
-use Rattle.tta_program.specs.declared.step.Step.{Step}
-use Rattle.tta_program.specs.declared.step.Step.TheVariants.{Copy, If}
-use Rattle.tta_program.specs.declared.operand.Src.{Src}
-use Rattle.tta_program.specs.declared.operand.Rel.{Rel}
+use Rattle.tta_ifconv.specs.Cited.{Step, Copy, If, Src, Rel}
 use Rattle.tta_ifconv.specs.Triangles.{is_target, skips, is_copy, is_triangle, is_dropped, place}
 
 -- a test that holds of something that may be missing holds of what is there

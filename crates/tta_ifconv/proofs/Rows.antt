@@ -1,13 +1,7 @@
 -- Small programs, and what becomes of them.
 use Rattle.std.proofs.Common.{◌≡◌, ℕ, zero, suc, List, [], ◌∷◌, Some, true, false, refl, ap}
 use Rattle.std.specs.Prelude.{slice_get, if◌then◌else◌, codes}
-use Rattle.tta_ops.specs.Units.{Units}
-use Rattle.tta_program.specs.declared.operand.Src.TheVariants.{Var, Word}
-use Rattle.tta_program.specs.declared.operand.Rel.TheVariants.{Eq, Lt, Ge}
-use Rattle.tta_program.specs.declared.step.Step.{Step}
-use Rattle.tta_program.specs.declared.step.Step.TheVariants.{Copy, Put, If, When, End}
-use Rattle.tta_program.specs.Program.{Program}
-use Rattle.tta_program.specs.Sequential.{State, Halted, is_odd, seq, next}
+use Rattle.tta_ifconv.specs.Cited.{Units, Var, Word, Eq, Lt, Ge, Step, Copy, Put, If, When, End, Program, State, Halted, is_odd, seq, next}
 use Rattle.tta_ifconv.specs.Triangles.{is_triangle, is_dropped, place, becomes}
 use Rattle.tta_ifconv.specs.Converted.{Converted}
 

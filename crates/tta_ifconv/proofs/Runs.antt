@@ -1,9 +1,6 @@
 -- The runs of a program and of the converted one.
 use Rattle.std.proofs.Common.{◌≡◌, ◌≤◌, ◌+◌, ◌*◌, ℕ, zero, suc, List, [], ◌∷◌, refl, sym, ap, ◌∙◌, subst, arith}
-use Rattle.tta_list.specs.Prefix.{IsPrefixOf}
-use Rattle.tta_ops.specs.Units.{Units}
-use Rattle.tta_program.specs.Program.{Program}
-use Rattle.tta_program.specs.Sequential.{seq, start, next, enter}
+use Rattle.tta_ifconv.specs.Cited.{IsPrefixOf, Units, Program, seq, start, next, enter}
 use Rattle.tta_program.proofs.Growing.{later_output}
 use Rattle.tta_ifconv.specs.Converted.{Converted}
 use Rattle.tta_ifconv.specs.Statement.{has_ended, RunAlike}

@@ -6,14 +6,9 @@ use Rattle.std.proofs.lemmas.Option.{slice_get_read, slice_get_within}
 use Rattle.std.proofs.lemmas.List.{length-append}
 use Rattle.std.proofs.Math.ListN.{get_or-append}
 use Rattle.std.proofs.Math.Seq.{get_or-append_seam, take-suc}
-use Rattle.tta_list.specs.Legs.{AllPairs}
+use Rattle.tta_ifconv.specs.Cited.{AllPairs, Step, If, Goto, Proc, Program, IsProgram, IsProc, is_step, is_src}
 use Rattle.tta_list.proofs.Lists.{slice_get-back, slice_get-longer, list_all_one, all_one, all_from as all_from_each}
 use Rattle.tta_list.proofs.Tests.{and_right}
-use Rattle.tta_program.specs.declared.step.Step.{Step}
-use Rattle.tta_program.specs.declared.step.Step.TheVariants.{If, Goto}
-use Rattle.tta_program.specs.declared.program.Proc.{Proc}
-use Rattle.tta_program.specs.Program.{Program}
-use Rattle.tta_program.specs.Rules.{IsProgram, IsProc, is_step, is_src}
 use Rattle.tta_ifconv.specs.Triangles.{is_target, is_dropped, place}
 use Rattle.tta_ifconv.specs.Tables.{AreKept, AreConverted, AreLines, names_within, AreClosed}
 use Rattle.tta_ifconv.specs.Converted.{IsConverted, Converted}

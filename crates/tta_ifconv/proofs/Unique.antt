@@ -4,18 +4,9 @@ use Rattle.std.specs.Prelude.{slice_get}
 use Rattle.std.specs.List.{list_all, AllByRecursion}
 use Rattle.std.proofs.lemmas.Bool.{and_from}
 use Rattle.std.proofs.lemmas.Option.{slice_get_within}
-use Rattle.tta_list.specs.Legs.{AllPairs}
+use Rattle.tta_ifconv.specs.Cited.{AllPairs, Units, Rel, Eq, Ne, Lt, Ge, Ltu, Geu, Step, If, Goto, Proc, Program, IsProgram, IsProc, StandsOver, is_over, has_test}
 use Rattle.tta_list.proofs.Lists.{list_all_one, all_from as all_from_each}
 use Rattle.tta_list.proofs.Tests.{and_left, and_right}
-use Rattle.tta_ops.specs.Units.{Units}
-use Rattle.tta_program.specs.declared.operand.Rel.{Rel}
-use Rattle.tta_program.specs.declared.operand.Rel.TheVariants.{Eq, Ne, Lt, Ge, Ltu, Geu}
-use Rattle.tta_program.specs.declared.step.Step.{Step}
-use Rattle.tta_program.specs.declared.step.Step.TheVariants.{If, Goto}
-use Rattle.tta_program.specs.declared.program.Proc.{Proc}
-use Rattle.tta_program.specs.Program.{Program}
-use Rattle.tta_program.specs.Rules.{IsProgram, IsProc}
-use Rattle.tta_program.specs.Over.{StandsOver, is_over, has_test}
 use Rattle.tta_ifconv.specs.Triangles.{opposite, is_triangle, place, renumbered, becomes}
 use Rattle.tta_ifconv.specs.Converted.{IsConverted, Converted, HasNoTriangle}
 use Rattle.tta_ifconv.proofs.Lists.{stands_within, same_items}

@@ -1,9 +1,6 @@
 -- Which program is another in which each triangle is one step.
 use Rattle.std.specs.Prelude.{◌≡◌, ℕ, false, length, Some, slice_get}
-use Rattle.tta_list.specs.Legs.{AllPairs}
-use Rattle.tta_program.specs.declared.step.Step.{Step}
-use Rattle.tta_program.specs.declared.program.Proc.{Proc}
-use Rattle.tta_program.specs.Program.{Program}
+use Rattle.tta_ifconv.specs.Cited.{AllPairs, Step, Proc, Program}
 use Rattle.tta_ifconv.specs.Triangles.{is_triangle, is_dropped, place, becomes}
 
 -- A procedure in which each triangle is one step, a copy under the opposite condition in the line of the branch. All other

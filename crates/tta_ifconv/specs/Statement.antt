@@ -1,13 +1,7 @@
 -- What if-conversion gives: a program that ends as the given one does, with the same data and output, in no more steps and
 -- in no fewer than half of them.
 use Rattle.std.specs.Prelude.{◌≡◌, ◌≤◌, ℕ, ◌*◌, Bool, true, false, List, length}
-use Rattle.tta_list.specs.Prefix.{IsPrefixOf}
-use Rattle.tta_ops.specs.Units.{Units}
-use Rattle.tta_program.specs.Program.{Program, step_count}
-use Rattle.tta_program.specs.Sizes.{var_count, arg_count}
-use Rattle.tta_program.specs.Rules.{IsProgram}
-use Rattle.tta_program.specs.Over.{StandsOver}
-use Rattle.tta_program.specs.Sequential.{State, Outcome, Running, Halted, Waiting, seq}
+use Rattle.tta_ifconv.specs.Cited.{IsPrefixOf, Units, Program, step_count, var_count, arg_count, IsProgram, StandsOver, State, Outcome, Running, Halted, Waiting, seq}
 use Rattle.tta_ifconv.specs.Converted.{Converted, HasNoTriangle}
 
 -- whether a run has halted or waits

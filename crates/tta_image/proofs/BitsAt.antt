@@ -4,8 +4,7 @@ use Rattle.std.proofs.lemmas.List.{length-drop, length-take-le}
 use Rattle.std.specs.List.{position_or_len}
 use Rattle.std.proofs.lemmas.List.FromFn.{length-range_with_len, get_or-range_with_len}
 use Rattle.std.proofs.lemmas.List.Sums.{position_or_len_is}
-use Rattle.tta_arch.specs.Joins.{has_bit}
-use Rattle.tta_arch.specs.Fields.{numbers}
+use Rattle.tta_image.specs.Cited.{has_bit, numbers}
 use Rattle.tta_image.specs.Decoding.{field}
 use Rattle.tta_image.proofs.Numbers.{number_of-below}
 

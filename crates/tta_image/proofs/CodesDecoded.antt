@@ -4,16 +4,8 @@ use Rattle.std.specs.List.{list_any, position_or_len}
 use Rattle.std.proofs.lemmas.Bool.{and_parts, and_from, or_left, or_right, eqb-true, eq-eqb, not-true, both_ways, false_from_ne_true}
 use Rattle.std.proofs.lemmas.Option.{none-some, same_Some, slice_get-get_or}
 use Rattle.std.proofs.lemmas.List.Sums.{passes_at_first}
-use Rattle.tta_arch.specs.declared.parts.Guard.{Guard}
-use Rattle.tta_arch.specs.declared.ends.GuardRef.{GuardRef}
-use Rattle.tta_arch.specs.declared.ends.Source.{Source}
+use Rattle.tta_image.specs.Cited.{Guard, GuardRef, Source, Dest, Machine, is_same_guard, is_dest_on, has_guard, guards_on, sources_on, dests_on, same_source, same_dest, source_code, dest_code, guard_code, fields_of, has_source_socket, IsMachine, same_guard, are_different}
 use Rattle.tta_arch.specs.declared.ends.Source.TheVariants as source
-use Rattle.tta_arch.specs.declared.ends.Dest.{Dest}
-use Rattle.tta_arch.specs.Machine.{Machine}
-use Rattle.tta_arch.specs.Joins.{is_same_guard, is_dest_on, has_guard}
-use Rattle.tta_arch.specs.Fields.{guards_on, sources_on, dests_on, same_source, same_dest, source_code, dest_code, guard_code}
-use Rattle.tta_arch.specs.Layout.{fields_of, has_source_socket}
-use Rattle.tta_arch.specs.Rules.{IsMachine, same_guard, are_different}
 use Rattle.tta_image.specs.Decoding.{decoded_guard, decoded_dest}
 use Rattle.tta_image.specs.Ranks.{source_rank, dest_rank}
 use Rattle.tta_image.proofs.Places.{place_inside}

@@ -4,17 +4,10 @@ use Rattle.std.specs.Option.{option_map_or}
 use Rattle.std.proofs.lemmas.Bool.{and_from, eq-eqb}
 use Rattle.std.proofs.lemmas.Option.{none-some, same_Some}
 use Rattle.tta_list.proofs.Lists.{some_below}
-use Rattle.tta_reading.specs.Steps.{◌>>=◌, or_refuse}
+use Rattle.tta_image.specs.Cited.{or_refuse, BusFields, Layout, Machine, layout_of, Move, Long, Instruction, is_long, is_instruction}
+use Rattle.tta_reading.specs.Steps.{◌>>=◌}
 use Rattle.tta_reading.proofs.Steps.{same_ok, then-ok}
-use Rattle.tta_arch.specs.declared.layout.BusFields.{BusFields}
-use Rattle.tta_arch.specs.declared.layout.Layout.{Layout}
-use Rattle.tta_arch.specs.Machine.{Machine}
-use Rattle.tta_arch.specs.Layout.{layout_of}
 use Rattle.tta_arch.proofs.Layouts.{layout_buses}
-use Rattle.tta_code.specs.declared.code.Move.{Move}
-use Rattle.tta_code.specs.declared.code.Long.{Long}
-use Rattle.tta_code.specs.declared.code.Instruction.{Instruction}
-use Rattle.tta_code.specs.Legal.{is_long, is_instruction}
 use Rattle.tta_image.specs.declared.refusal.ImageRefusal.TheVariants.{Field}
 use Rattle.tta_image.specs.Refusals.{of_word}
 use Rattle.tta_image.specs.Decoding.{number_of, field, decoded_template, taken_by, least_bus, taken_bits, word_only, decoded_long, decoded_bus, decoded_slots, decoded_instruction}

@@ -3,17 +3,10 @@ use Rattle.std.proofs.Common.{◌≡◌, ℕ, ◌+◌, ◌*◌, ◌≤◌, Bool,
 use Rattle.std.specs.Option.{option_map_or}
 use Rattle.std.specs.List.{flat_map, enumerate_from, list_all, AllByRecursion}
 use Rattle.std.proofs.lemmas.Bool.{and_parts}
-use Rattle.tta_arch.specs.declared.parts.File.{File}
-use Rattle.tta_arch.specs.declared.parts.ImmUnit.{ImmUnit}
+use Rattle.tta_image.specs.Cited.{File, ImmUnit, Source, Dest, Machine, numbers, all_sources, all_dests, sources_on, dests_on, is_source_on, is_dest_on, IsMachine, is_file, is_imm, is_unit}
 use Rattle.tta_arch.specs.declared.parts.Unit.{Unit as OpUnit}
-use Rattle.tta_arch.specs.declared.ends.Source.{Source}
 use Rattle.tta_arch.specs.declared.ends.Source.TheVariants as source
-use Rattle.tta_arch.specs.declared.ends.Dest.{Dest}
 use Rattle.tta_arch.specs.declared.ends.Dest.TheVariants as dest
-use Rattle.tta_arch.specs.Machine.{Machine}
-use Rattle.tta_arch.specs.Fields.{numbers, all_sources, all_dests, sources_on, dests_on}
-use Rattle.tta_arch.specs.Joins.{is_source_on, is_dest_on}
-use Rattle.tta_arch.specs.Rules.{IsMachine, is_file, is_imm, is_unit}
 use Rattle.tta_arch.proofs.Sizes.{small_file, small_imm, small_unit}
 use Rattle.tta_image.specs.Ranks.{source_rank, dest_rank, Rising}
 use Rattle.tta_image.proofs.Rising.{rising_lower, rising_raise, rising-append, rising-filter, rising-range, rising-pieces}

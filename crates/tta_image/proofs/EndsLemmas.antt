@@ -3,16 +3,9 @@ use Rattle.std.proofs.Common.{◌≡◌, ℕ, ◌+◌, ◌<◌, ◌==◌, Bool, 
 use Rattle.std.specs.Option.{option_map_or}
 use Rattle.std.specs.List.{list_any, flat_map, enumerate_from, position_or_len}
 use Rattle.std.proofs.lemmas.Bool.{false≢true, and_parts, and_from, or_left, eqb-true, eq-eqb, ltb-true}
-use Rattle.tta_arch.specs.declared.parts.Guard.{Guard}
-use Rattle.tta_arch.specs.declared.ends.GuardRef.{GuardRef}
-use Rattle.tta_arch.specs.declared.ends.Source.{Source}
+use Rattle.tta_image.specs.Cited.{Guard, GuardRef, Source, Dest, Machine, within, has_socket, is_same_guard, is_source_on, is_dest_on, has_guard, numbers, all_sources, all_dests, sources_on, dests_on, guards_on, same_source, same_dest, source_code, dest_code, guard_code, has_source_socket}
 use Rattle.tta_arch.specs.declared.ends.Source.TheVariants as source
-use Rattle.tta_arch.specs.declared.ends.Dest.{Dest}
 use Rattle.tta_arch.specs.declared.ends.Dest.TheVariants as dest
-use Rattle.tta_arch.specs.Machine.{Machine}
-use Rattle.tta_arch.specs.Joins.{within, has_socket, is_same_guard, is_source_on, is_dest_on, has_guard}
-use Rattle.tta_arch.specs.Fields.{numbers, all_sources, all_dests, sources_on, dests_on, guards_on, same_source, same_dest, source_code, dest_code, guard_code}
-use Rattle.tta_arch.specs.Layout.{has_source_socket}
 use Rattle.tta_image.proofs.Places.{place_inside, one_item, any_left, any_right, any_kept, any_both, any_pieces, any_numbered}
 use Rattle.tta_arch.proofs.Guards.{same_guard as same_guard_true}
 

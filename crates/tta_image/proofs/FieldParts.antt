@@ -3,7 +3,7 @@ use Rattle.std.proofs.Common.{◌≡◌, ℕ, zero, suc, ◌+◌, ◌-◌, ◌*�
 use Rattle.std.proofs.lemmas.List.{length-drop, length-take-le, drop-drop, drop-append-le, take-append-le}
 use Rattle.std.proofs.Math.Seq.{drop-append-add, take-add}
 use Rattle.std.proofs.lemmas.Nat.{shr_high, mod_low}
-use Rattle.tta_arch.specs.declared.layout.BusFields.{BusFields}
+use Rattle.tta_image.specs.Cited.{BusFields}
 use Rattle.tta_image.specs.Bits.{bits_of}
 use Rattle.tta_image.specs.declared.slots.SlotNumbers.{SlotNumbers}
 use Rattle.tta_image.specs.Decoding.{bits_in, number_of, field, slot_numbers}

@@ -6,16 +6,8 @@ use Rattle.std.proofs.lemmas.Bool.{and_parts, leb-true, eqb-true}
 use Rattle.std.proofs.lemmas.List.{append_assoc}
 use Rattle.std.proofs.lemmas.Nat.{pow_below}
 use Rattle.std.proofs.lemmas.List.Elements.{All-nil, All-cons}
-use Rattle.tta_arch.specs.declared.parts.Control.{Control}
-use Rattle.tta_arch.specs.declared.parts.Socket.{Socket}
-use Rattle.tta_arch.specs.Machine.{Machine}
-use Rattle.tta_arch.specs.Fields.{word_width}
-use Rattle.tta_arch.specs.Rules.{IsMachine, is_control, is_from_to, is_socket, is_port_socket}
-use Rattle.tta_code.specs.declared.code.Instruction.{Instruction}
-use Rattle.tta_code.specs.declared.code.Code.{Code}
-use Rattle.tta_code.specs.Legal.{is_legal, IsLegalCode}
+use Rattle.tta_image.specs.Cited.{Control, Socket, Machine, word_width, IsMachine, is_control, is_from_to, is_socket, is_port_socket, Instruction, Code, is_legal, IsLegalCode, Datum}
 use Rattle.tta_code.proofs.LegalParts.{legal_parts}
-use Rattle.tta_code.specs.declared.whole.Datum.{Datum}
 use Rattle.tta_image.specs.Image.{header, version_of, data_section, AreBytesOf}
 
 -- ---- the bytes

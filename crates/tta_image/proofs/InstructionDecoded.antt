@@ -6,18 +6,10 @@ use Rattle.std.proofs.lemmas.Bool.{eqb-true, both_ways, eq-eqb}
 use Rattle.std.proofs.lemmas.Option.{none-some, same_Some}
 use Rattle.std.proofs.lemmas.List.{length-append, length-drop, length-take-le, take_at, drop_at, nil_from_length}
 use Rattle.std.proofs.lemmas.List.Sums.{sum_by-cons}
-use Rattle.tta_reading.specs.Steps.{◌>>=◌, or_refuse}
+use Rattle.tta_image.specs.Cited.{or_refuse, BusFields, Machine, has_bit, numbers, template_width, bus_width, taken_width, word_width, fields_of, layout_of, IsMachine, Move, Long, Instruction}
+use Rattle.tta_reading.specs.Steps.{◌>>=◌}
 use Rattle.tta_reading.proofs.Steps.{then-ok, same_ok}
-use Rattle.tta_arch.specs.declared.layout.BusFields.{BusFields}
-use Rattle.tta_arch.specs.Machine.{Machine}
-use Rattle.tta_arch.specs.Joins.{has_bit}
-use Rattle.tta_arch.specs.Fields.{numbers, template_width, bus_width, taken_width, word_width}
-use Rattle.tta_arch.specs.Layout.{fields_of, layout_of}
-use Rattle.tta_arch.specs.Rules.{IsMachine}
 use Rattle.tta_arch.proofs.Layouts.{no_bus_in_none}
-use Rattle.tta_code.specs.declared.code.Move.{Move}
-use Rattle.tta_code.specs.declared.code.Long.{Long}
-use Rattle.tta_code.specs.declared.code.Instruction.{Instruction}
 use Rattle.tta_image.specs.declared.refusal.ImageRefusal.TheVariants.{Field}
 use Rattle.tta_image.specs.Refusals.{of_word}
 use Rattle.tta_image.specs.Bits.{bits_of, slot_bits, slots_bits, template_code, long_bits, instruction_bits}

@@ -3,18 +3,9 @@ use Rattle.std.proofs.Common.{◌≡◌, ℕ, suc, ◌+◌, ◌-◌, ◌^◌, �
 use Rattle.std.specs.Option.{option_map_or}
 use Rattle.std.proofs.lemmas.Bool.{and_parts, ltb-true, lt-ltb, eqb-true, false_from_ne_true}
 use Rattle.std.proofs.lemmas.List.{append_assoc, length-drop, length-take-le, take_at, drop_at, take-append-drop, nil_from_length}
-use Rattle.tta_reading.specs.Steps.{◌>>=◌, or_refuse}
-use Rattle.tta_arch.specs.declared.layout.BusFields.{BusFields}
-use Rattle.tta_arch.specs.Machine.{Machine}
-use Rattle.tta_arch.specs.Joins.{has_bit}
-use Rattle.tta_arch.specs.Fields.{template_width, bus_width, taken_width}
-use Rattle.tta_arch.specs.Layout.{fields_of, layout_of}
-use Rattle.tta_arch.specs.Rules.{IsMachine}
+use Rattle.tta_image.specs.Cited.{or_refuse, BusFields, Machine, has_bit, template_width, bus_width, taken_width, fields_of, layout_of, IsMachine, Move, Long, Instruction, is_long, is_legal}
+use Rattle.tta_reading.specs.Steps.{◌>>=◌}
 use Rattle.tta_arch.proofs.Widths.{width_for-enough}
-use Rattle.tta_code.specs.declared.code.Move.{Move}
-use Rattle.tta_code.specs.declared.code.Long.{Long}
-use Rattle.tta_code.specs.declared.code.Instruction.{Instruction}
-use Rattle.tta_code.specs.Legal.{is_long, is_legal}
 use Rattle.tta_image.specs.declared.refusal.ImageError.{ImageError}
 use Rattle.tta_image.specs.declared.refusal.ImageRefusal.TheVariants.{Field}
 use Rattle.tta_image.specs.Refusals.{of_word}

@@ -7,19 +7,10 @@ use Rattle.std.proofs.lemmas.Option.{slice_get_within}
 use Rattle.std.proofs.lemmas.List.{length-append, length-take-le, length-drop, take-append-drop, append_assoc, nil_from_length}
 use Rattle.std.proofs.lemmas.List.Sums.{sum_by-cons}
 use Rattle.tta_list.proofs.Lists.{all_one}
-use Rattle.tta_arch.specs.declared.parts.Template.{Template}
-use Rattle.tta_arch.specs.Machine.{Machine}
-use Rattle.tta_arch.specs.Joins.{has_bit, joins}
-use Rattle.tta_arch.specs.Fields.{template_width, bus_width, taken_width, word_width}
-use Rattle.tta_arch.specs.Legal.{Ends, all_slots}
-use Rattle.tta_arch.specs.Rules.{IsMachine}
+use Rattle.tta_image.specs.Cited.{Template, Machine, has_bit, joins, template_width, bus_width, taken_width, word_width, Ends, all_slots, IsMachine, Move, Long, Instruction, ends_of, taken, is_long, is_legal}
 use Rattle.tta_arch.proofs.Layouts.{set_width_at, no_bus_in_none}
 use Rattle.tta_arch.proofs.Widths.{pow_le}
 use Rattle.tta_arch.proofs.Joined.{is_joined_at}
-use Rattle.tta_code.specs.declared.code.Move.{Move}
-use Rattle.tta_code.specs.declared.code.Long.{Long}
-use Rattle.tta_code.specs.declared.code.Instruction.{Instruction}
-use Rattle.tta_code.specs.Legal.{ends_of, taken, is_long, is_legal}
 use Rattle.tta_code.proofs.LegalParts.{legal_parts}
 use Rattle.tta_image.specs.Bits.{bits_of, slot_bits, slots_bits, template_code, long_bits, instruction_bits}
 use Rattle.tta_image.specs.Fields.{buses_of}

@@ -3,19 +3,9 @@ use Rattle.std.proofs.Common.{◌≡◌, ℕ, suc, ◌+◌, ◌-◌, ◌<◌, �
 use Rattle.std.specs.List.{sum_by, range_with_len}
 use Rattle.std.proofs.lemmas.List.{drop_more, append_assoc}
 use Rattle.std.proofs.lemmas.List.Sums.{sum_by-cons}
-use Rattle.tta_arch.specs.declared.ends.GuardRef.{GuardRef}
-use Rattle.tta_arch.specs.declared.ends.Source.{Source}
+use Rattle.tta_image.specs.Cited.{GuardRef, Source, Machine, has_bit, guard_code, dest_code, taken_width, template_width, numbers, guard_width, dest_width, bus_width, BusFields, Layout, Move, Long, Instruction, fields_of, layout_of}
 use Rattle.tta_arch.specs.declared.ends.Source.TheVariants as source
-use Rattle.tta_arch.specs.Machine.{Machine}
-use Rattle.tta_arch.specs.Joins.{has_bit}
-use Rattle.tta_arch.specs.Fields.{guard_code, dest_code, taken_width, template_width, numbers, guard_width, dest_width, bus_width}
-use Rattle.tta_arch.specs.declared.layout.BusFields.{BusFields}
-use Rattle.tta_arch.specs.declared.layout.Layout.{Layout}
-use Rattle.tta_code.specs.declared.code.Move.{Move}
-use Rattle.tta_code.specs.declared.code.Long.{Long}
-use Rattle.tta_code.specs.declared.code.Instruction.{Instruction}
 use Rattle.tta_image.specs.Bits.{bits_of, source_bits, slot_bits, slots_bits, template_code, long_bits, instruction_bits}
-use Rattle.tta_arch.specs.Layout.{fields_of, layout_of}
 use Rattle.tta_image.specs.Fields.{source_field, guard_number, slot_field, bus_field, left_after, buses_of, value_of}
 use Rattle.tta_arch.proofs.Layouts.{set_width_at, no_bus_in_none}
 use Rattle.tta_image.proofs.BitLemmas.{drop_left}

@@ -5,13 +5,7 @@ use Rattle.std.specs.List.{range_with_len}
 use Rattle.std.proofs.lemmas.Bool.{le-leb, lt-leb, cases_lt, and_parts, leb-true}
 use Rattle.std.proofs.lemmas.List.Sums.{length-filter, count_by-le-length}
 use Rattle.tta_list.proofs.Lists.{list_all_one}
-use Rattle.tta_arch.specs.declared.parts.Bus.{Bus}
-use Rattle.tta_arch.specs.declared.parts.Guard.{Guard}
-use Rattle.tta_arch.specs.declared.layout.Layout.{Layout}
-use Rattle.tta_arch.specs.Machine.{Machine}
-use Rattle.tta_arch.specs.Rules.{IsMachine, is_bus}
-use Rattle.tta_arch.specs.Fields.{width_from, width_for, short_width, guards_on, sources_on, dests_on, template_width}
-use Rattle.tta_arch.specs.Layout.{fields_of, layout_of}
+use Rattle.tta_image.specs.Cited.{Bus, Guard, Layout, Machine, IsMachine, is_bus, width_from, width_for, short_width, guards_on, sources_on, dests_on, template_width, fields_of, layout_of}
 use Rattle.tta_image.specs.Narrow.{IsNarrow, AreNarrow}
 use Rattle.tta_image.specs.Ranks.{source_rank, dest_rank}
 use Rattle.tta_image.proofs.Rising.{rising-length}

@@ -2,12 +2,7 @@
 use Rattle.std.proofs.Common.{◌≡◌, ℕ, ◌^◌, ◌<◌, false, List, [], ◌∷◌, ◌++◌, length, replicate, codes, refl, sym, ap, ◌∙◌, arith}
 use Rattle.std.specs.Int.{w32, to_be_bytes}
 use Rattle.std.specs.List.{flat_map}
-use Rattle.tta_arch.specs.Machine.{Machine}
-use Rattle.tta_arch.specs.Fields.{word_width}
-use Rattle.tta_arch.specs.Rules.{IsMachine}
-use Rattle.tta_code.specs.declared.code.Instruction.{Instruction}
-use Rattle.tta_code.specs.declared.whole.Datum.{Datum}
-use Rattle.tta_code.specs.Whole.{Whole}
+use Rattle.tta_image.specs.Cited.{Machine, word_width, IsMachine, Instruction, Datum, Whole}
 use Rattle.tta_image.specs.Bits.{bits_of, code_bits}
 use Rattle.tta_image.specs.Image.{Image, header, version_of, data_section}
 use Rattle.tta_image.proofs.Unique.{split_same}

@@ -1,14 +1,7 @@
 -- The sources and destinations of every machine's buses stand in order.
 use Rattle.std.proofs.Common.{◌≡◌, ℕ, zero, suc, ◌+◌, ◌<◌, true, List, [], ◌∷◌, length, map, get_or, sym, ap, subst, arith}
 use Rattle.std.specs.List.{range_with_len}
-use Rattle.tta_arch.specs.declared.ends.Source.{Source}
-use Rattle.tta_arch.specs.declared.ends.Dest.{Dest}
-use Rattle.tta_arch.specs.declared.layout.BusFields.{BusFields}
-use Rattle.tta_arch.specs.declared.layout.Layout.{Layout}
-use Rattle.tta_arch.specs.Machine.{Machine}
-use Rattle.tta_arch.specs.Rules.{IsMachine}
-use Rattle.tta_arch.specs.Fields.{same_source, same_dest}
-use Rattle.tta_arch.specs.Layout.{fields_of, layout_of}
+use Rattle.tta_image.specs.Cited.{Source, Dest, BusFields, Layout, Machine, IsMachine, same_source, same_dest, fields_of, layout_of}
 use Rattle.tta_image.specs.Ranks.{source_rank, dest_rank, IsInOrder, AreInOrder}
 use Rattle.tta_image.proofs.EndRanks.{sources_on-rise, dests_on-rise}
 use Rattle.tta_image.proofs.EndsLemmas.{same_source_true, same_dest_true}

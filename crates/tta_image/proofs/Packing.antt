@@ -4,9 +4,7 @@ use Rattle.std.specs.List.{flat_map, AllByRecursion}
 use Rattle.std.proofs.lemmas.Bool.{cases_eq}
 use Rattle.std.proofs.lemmas.List.{append_assoc, append-nil}
 use Rattle.std.proofs.lemmas.Nat.{shl_below}
-use Rattle.tta_arch.specs.Machine.{Machine}
-use Rattle.tta_code.specs.Whole.{Whole, rises, fits}
-use Rattle.tta_code.specs.Legal.{IsLegalCode}
+use Rattle.tta_image.specs.Cited.{Machine, Whole, rises, fits, IsLegalCode}
 use Rattle.tta_image.specs.Bits.{bits_of, code_bits}
 use Rattle.tta_image.specs.Image.{AreBytesOf, Image, header, version_of, data_section}
 use Rattle.tta_image.specs.Sink.{bit_value}

@@ -5,17 +5,14 @@ use Rattle.std.specs.List.{flat_map, AllByRecursion}
 use Rattle.std.proofs.lemmas.Bool.{and_parts, and_from, or_parts, le-leb, lt-ltb, leb-true, ltb-true, leb-false, ltb-false, ne_eqb}
 use Rattle.std.proofs.lemmas.List.{length-append, length-drop, length-take-le, drop-drop, take-append-drop, append_assoc, append-nil, drop_at}
 use Rattle.std.proofs.lemmas.Nat.{from_be_bytes-to_be_bytes_4, be_bytes_4}
-use Rattle.tta_reading.specs.Steps.{◌>>=◌, refuse_if}
+use Rattle.tta_image.specs.Cited.{refuse_if, Machine, Datum, rises_from, rises, fits, IsMachine}
+use Rattle.tta_reading.specs.Steps.{◌>>=◌}
 use Rattle.tta_reading.proofs.Steps.{refuse_if-ok, then-ok, same_ok}
-use Rattle.tta_arch.specs.Machine.{Machine}
-use Rattle.tta_code.specs.declared.whole.Datum.{Datum}
-use Rattle.tta_code.specs.Whole.{rises_from, rises, fits}
 use Rattle.tta_image.specs.declared.refusal.ImageError.{ImageError}
 use Rattle.tta_image.specs.declared.refusal.ImageRefusal.TheVariants.{Data}
 use Rattle.tta_image.specs.Refusals.{of_all, of_word, Answers}
 use Rattle.tta_image.specs.Image.{header, version_of, datum_bytes, data_section}
 use Rattle.tta_image.specs.Reading.{has_data, is_version, data_told, section_length, datum_in, decoded_pairs, decoded_data}
-use Rattle.tta_arch.specs.Rules.{IsMachine}
 use Rattle.tta_image.proofs.Walks.{with_front, front_more}
 use Rattle.tta_image.proofs.Unique.{split_same}
 use Rattle.tta_image.proofs.HeaderDecoded.{version_in, small_at, small_take, small_drop}

@@ -1,16 +1,9 @@
 -- What the bytes of small images decode to, and of bytes that are nearly images.
 use Rattle.std.specs.Prelude.{◌≡◌, ℕ, List, [], ◌∷◌, ◌++◌, replicate, true, None, Some, Ok, Err, refl}
-use Rattle.tta_arch.specs.Fields.{width_for}
+use Rattle.tta_image.specs.Cited.{width_for, layout_of, can_move, Instruction, Machine, Code, Whole, is_legal}
 use Rattle.tta_arch.proofs.Samples.{one_bus, three_buses}
 use Rattle.tta_arch.specs.declared.ends.Source.TheVariants as source
 use Rattle.tta_arch.specs.declared.ends.Dest.TheVariants as dest
-use Rattle.tta_arch.specs.Layout.{layout_of}
-use Rattle.tta_arch.specs.Legal.{can_move}
-use Rattle.tta_code.specs.declared.code.Instruction.{Instruction}
-use Rattle.tta_arch.specs.Machine.{Machine}
-use Rattle.tta_code.specs.declared.code.Code.{Code}
-use Rattle.tta_code.specs.Whole.{Whole}
-use Rattle.tta_code.specs.Legal.{is_legal}
 use Rattle.tta_code.proofs.Rows.{wide}
 use Rattle.tta_image.specs.declared.refusal.ImageRefusal.TheVariants.{Magic, Version, WrongMachine, Length, Field, Illegal, Padding, Data}
 use Rattle.tta_image.specs.Bits.{instruction_bits}

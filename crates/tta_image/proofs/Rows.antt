@@ -4,11 +4,8 @@ use Rattle.std.proofs.Common.{lit≤}
 use Rattle.std.specs.List.{flat_map}
 use Rattle.tta_arch.specs.declared.ends.Source.TheVariants as source
 use Rattle.tta_arch.specs.declared.ends.Dest.TheVariants as dest
-use Rattle.tta_arch.specs.Fields.{width_for}
-use Rattle.tta_arch.specs.Legal.{can_move}
+use Rattle.tta_image.specs.Cited.{width_for, can_move, Code, is_legal, IsLegalCode}
 use Rattle.tta_arch.proofs.Samples.{one_bus, three_buses}
-use Rattle.tta_code.specs.declared.code.Code.{Code}
-use Rattle.tta_code.specs.Legal.{is_legal, IsLegalCode}
 use Rattle.tta_code.proofs.Rows.{wide}
 use Rattle.tta_image.specs.Bits.{bits_of, instruction_bits, code_bits}
 use Rattle.tta_image.specs.Image.{header}

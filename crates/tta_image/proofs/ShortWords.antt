@@ -5,12 +5,8 @@ use Rattle.std.specs.List.{list_all}
 use Rattle.std.proofs.lemmas.Nat.{pow_pos, shr_split, mod-pow-add, mod_below, same_from_place}
 use Rattle.std.proofs.lemmas.Bool.{false≢true, and_parts, or_cases, eqb-true, leb-true, ltb-true}
 use Rattle.tta_list.proofs.Lists.{list_all_one}
-use Rattle.tta_arch.specs.declared.parts.Bus.{Bus}
+use Rattle.tta_image.specs.Cited.{Bus, Machine, holds_word, is_source_on, short_width, is_bus}
 use Rattle.tta_arch.specs.declared.ends.Source.TheVariants as source
-use Rattle.tta_arch.specs.Machine.{Machine}
-use Rattle.tta_arch.specs.Joins.{holds_word, is_source_on}
-use Rattle.tta_arch.specs.Fields.{short_width}
-use Rattle.tta_arch.specs.Rules.{is_bus}
 use Rattle.tta_image.proofs.BitLemmas.{low_whole}
 
 -- the bits above k are all 0 or all 1, where full is odd

@@ -3,17 +3,9 @@ use Rattle.std.proofs.Common.{◌≡◌, ℕ, ◌+◌, ◌%◌, ◌^◌, ◌<◌
 use Rattle.std.proofs.lemmas.Bool.{false≢true, and_parts}
 use Rattle.std.proofs.lemmas.List.{length-append, length-replicate, replicate-append-replicate, append_assoc}
 use Rattle.std.proofs.lemmas.Nat.{mod_below, pow_pos}
-use Rattle.tta_arch.specs.declared.ends.GuardRef.{GuardRef}
-use Rattle.tta_arch.specs.declared.ends.Source.{Source}
+use Rattle.tta_image.specs.Cited.{GuardRef, Source, Dest, Machine, joins, is_source_on, is_dest_on, has_guard, width_for, sources_on, dests_on, guards_on, short_width, guard_width, payload_width, dest_width, bus_width, source_code, dest_code, guard_code, IsMachine, has_source_socket, Move}
 use Rattle.tta_arch.specs.declared.ends.Source.TheVariants as source
-use Rattle.tta_arch.specs.declared.ends.Dest.{Dest}
-use Rattle.tta_arch.specs.Machine.{Machine}
-use Rattle.tta_arch.specs.Joins.{joins, is_source_on, is_dest_on, has_guard}
-use Rattle.tta_arch.specs.Fields.{width_for, sources_on, dests_on, guards_on, short_width, guard_width, payload_width, dest_width, bus_width, source_code, dest_code, guard_code}
-use Rattle.tta_arch.specs.Rules.{IsMachine}
-use Rattle.tta_arch.specs.Layout.{has_source_socket}
 use Rattle.tta_arch.proofs.Widths.{width_for-enough, pow_le}
-use Rattle.tta_code.specs.declared.code.Move.{Move}
 use Rattle.tta_image.specs.Bits.{bits_of, source_bits, slot_bits}
 use Rattle.tta_image.proofs.Unique.{split_same, length-bits_of, same_number}
 use Rattle.tta_image.proofs.ShortWords.{value_tells}

@@ -6,14 +6,8 @@ use Rattle.std.proofs.lemmas.Option.{none-some, same_Some}
 use Rattle.std.proofs.lemmas.List.{append_assoc, length-append, length-drop, length-take-le, drop-drop, take_at, drop_at, replicate-append-replicate}
 use Rattle.tta_reading.specs.Steps.{◌>>?◌}
 use Rattle.tta_reading.proofs.Steps.{then-some}
-use Rattle.tta_arch.specs.declared.ends.Source.{Source}
+use Rattle.tta_image.specs.Cited.{Source, BusFields, Machine, short_width, guard_width, payload_width, dest_width, source_code, dest_code, fields_of, IsMachine, Move}
 use Rattle.tta_arch.specs.declared.ends.Source.TheVariants as source
-use Rattle.tta_arch.specs.declared.layout.BusFields.{BusFields}
-use Rattle.tta_arch.specs.Machine.{Machine}
-use Rattle.tta_arch.specs.Fields.{short_width, guard_width, payload_width, dest_width, source_code, dest_code}
-use Rattle.tta_arch.specs.Layout.{fields_of}
-use Rattle.tta_arch.specs.Rules.{IsMachine}
-use Rattle.tta_code.specs.declared.code.Move.{Move}
 use Rattle.tta_image.specs.declared.slots.SlotNumbers.{SlotNumbers}
 use Rattle.tta_image.specs.Bits.{bits_of, source_bits, slot_bits}
 use Rattle.tta_image.specs.Decoding.{number_of, field, slot_numbers, decoded_guard, short_word, decoded_source, decoded_dest, decoded_move, decoded_slot, is_signed}

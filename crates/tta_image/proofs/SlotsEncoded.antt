@@ -3,17 +3,9 @@ use Rattle.std.proofs.Common.{◌≡◌, ℕ, ◌+◌, ◌%◌, ◌^◌, ◌<◌
 use Rattle.std.proofs.lemmas.Bool.{false_from_ne_true, eqb-true, lt-ltb}
 use Rattle.std.proofs.lemmas.Nat.{mod_below, pow_pos}
 use Rattle.tta_reading.specs.Steps.{◌>>?◌}
-use Rattle.tta_arch.specs.declared.ends.GuardRef.{GuardRef}
-use Rattle.tta_arch.specs.declared.ends.Source.{Source}
+use Rattle.tta_image.specs.Cited.{GuardRef, Source, Dest, Machine, is_source_on, width_for, guards_on, sources_on, dests_on, short_width, guard_width, payload_width, dest_width, guard_code, source_code, dest_code, fields_of, IsMachine, Move}
 use Rattle.tta_arch.specs.declared.ends.Source.TheVariants as source
-use Rattle.tta_arch.specs.declared.ends.Dest.{Dest}
-use Rattle.tta_arch.specs.Machine.{Machine}
-use Rattle.tta_arch.specs.Joins.{is_source_on}
-use Rattle.tta_arch.specs.Fields.{width_for, guards_on, sources_on, dests_on, short_width, guard_width, payload_width, dest_width, guard_code, source_code, dest_code}
-use Rattle.tta_arch.specs.Layout.{fields_of}
-use Rattle.tta_arch.specs.Rules.{IsMachine}
 use Rattle.tta_arch.proofs.Widths.{width_for-enough, pow_le}
-use Rattle.tta_code.specs.declared.code.Move.{Move}
 use Rattle.tta_image.specs.declared.slots.SlotNumbers.{SlotNumbers}
 use Rattle.tta_image.specs.Bits.{bits_of, source_bits, slot_bits}
 use Rattle.tta_image.specs.Decoding.{slot_numbers, decoded_source, decoded_dest, decoded_move, decoded_slot, is_signed}

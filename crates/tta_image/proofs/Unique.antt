@@ -3,8 +3,7 @@ use Rattle.std.proofs.Common.{◌≡◌, ℕ, zero, suc, ◌+◌, ◌*◌, ◌/�
 use Rattle.std.specs.List.{flat_map, AllByRecursion}
 use Rattle.std.proofs.lemmas.List.{same_from_push, take_at, drop_at, length-append, length-replicate}
 use Rattle.std.proofs.lemmas.Bool.{cases_eq, eq-eqb, ne_eqb}
-use Rattle.tta_arch.specs.Machine.{Machine}
-use Rattle.tta_code.specs.Whole.{Whole}
+use Rattle.tta_image.specs.Cited.{Machine, Whole}
 use Rattle.tta_image.specs.Bits.{bits_of, code_bits}
 use Rattle.tta_image.specs.Image.{AreBytesOf, Image, header, version_of, data_section}
 use Rattle.tta_image.specs.Sink.{bit_value}

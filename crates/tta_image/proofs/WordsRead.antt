@@ -4,15 +4,8 @@ use Rattle.std.specs.List.{list_any}
 use Rattle.std.proofs.lemmas.Bool.{eqb-true}
 use Rattle.std.proofs.lemmas.List.{append-nil, length-drop, take_all}
 use Rattle.std.proofs.lemmas.Nat.{mul-le}
-use Rattle.tta_reading.specs.Steps.{◌>>=◌, refuse_if}
-use Rattle.tta_arch.specs.declared.layout.Layout.{Layout}
-use Rattle.tta_arch.specs.Machine.{Machine}
-use Rattle.tta_arch.specs.Fields.{word_width}
-use Rattle.tta_arch.specs.Layout.{layout_of}
-use Rattle.tta_arch.specs.Rules.{IsMachine}
-use Rattle.tta_code.specs.declared.code.Instruction.{Instruction}
-use Rattle.tta_code.specs.declared.whole.Datum.{Datum}
-use Rattle.tta_code.specs.Whole.{Whole}
+use Rattle.tta_image.specs.Cited.{refuse_if, Layout, Machine, word_width, layout_of, IsMachine, Instruction, Datum, Whole}
+use Rattle.tta_reading.specs.Steps.{◌>>=◌}
 use Rattle.tta_image.specs.declared.refusal.ImageError.{ImageError}
 use Rattle.tta_image.specs.declared.refusal.ImageError.TheVariants.{Refused, NoMemory}
 use Rattle.tta_image.specs.declared.refusal.ImageRefusal.TheVariants.{Padding}

@@ -1,16 +1,8 @@
 -- How an instruction is written as bits.
 use Rattle.std.specs.Prelude.{ℕ, zero, suc, ◌+◌, ◌/◌, ◌%◌, ◌^◌, ◌==◌, Bool, true, false, if◌then◌else◌, List, [], ◌∷◌, ◌++◌, take, drop, replicate, Option, Some, None}
 use Rattle.std.specs.List.{flat_map}
-use Rattle.tta_arch.specs.declared.ends.Source.{Source}
+use Rattle.tta_image.specs.Cited.{Source, Machine, has_bit, short_width, template_width, guard_width, payload_width, dest_width, bus_width, taken_width, guard_code, source_code, dest_code, Move, Long, Instruction, Code, taken}
 use Rattle.tta_arch.specs.declared.ends.Source.TheVariants as source
-use Rattle.tta_arch.specs.Machine.{Machine}
-use Rattle.tta_arch.specs.Joins.{has_bit}
-use Rattle.tta_arch.specs.Fields.{short_width, template_width, guard_width, payload_width, dest_width, bus_width, taken_width, guard_code, source_code, dest_code}
-use Rattle.tta_code.specs.declared.code.Move.{Move}
-use Rattle.tta_code.specs.declared.code.Long.{Long}
-use Rattle.tta_code.specs.declared.code.Instruction.{Instruction}
-use Rattle.tta_code.specs.declared.code.Code.{Code}
-use Rattle.tta_code.specs.Legal.{taken}
 
 -- a number in so many bits, the highest first
 abbrev pub bits_of : (width n : ℕ) → List Bool

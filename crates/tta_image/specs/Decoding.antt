@@ -2,19 +2,9 @@
 use Rattle.std.specs.Prelude.{ℕ, ◌+◌, ◌-◌, ◌*◌, ◌^◌, ◌==◌, Bool, true, false, not, ◌&&◌, nat_lt, nat_le, if◌then◌else◌, List, [], ◌∷◌, ◌++◌, length, take, drop, Option, Some, None, option_map, slice_get, Result, Ok}
 use Rattle.std.specs.Option.{option_map_or}
 use Rattle.std.specs.List.{flat_map, position_or_len}
-use Rattle.tta_reading.specs.Steps.{◌>>=◌, ◌>>?◌, or_refuse}
-use Rattle.tta_arch.specs.declared.ends.GuardRef.{GuardRef}
-use Rattle.tta_arch.specs.declared.ends.Source.{Source}
+use Rattle.tta_image.specs.Cited.{or_refuse, GuardRef, Source, Dest, BusFields, Layout, Machine, has_bit, numbers, Move, Long, Instruction}
+use Rattle.tta_reading.specs.Steps.{◌>>=◌, ◌>>?◌}
 use Rattle.tta_arch.specs.declared.ends.Source.TheVariants as source
-use Rattle.tta_arch.specs.declared.ends.Dest.{Dest}
-use Rattle.tta_arch.specs.declared.layout.BusFields.{BusFields}
-use Rattle.tta_arch.specs.declared.layout.Layout.{Layout}
-use Rattle.tta_arch.specs.Machine.{Machine}
-use Rattle.tta_arch.specs.Joins.{has_bit}
-use Rattle.tta_arch.specs.Fields.{numbers}
-use Rattle.tta_code.specs.declared.code.Move.{Move}
-use Rattle.tta_code.specs.declared.code.Long.{Long}
-use Rattle.tta_code.specs.declared.code.Instruction.{Instruction}
 use Rattle.tta_image.specs.declared.refusal.ImageError.{ImageError}
 use Rattle.tta_image.specs.declared.refusal.ImageRefusal.TheVariants.{Field}
 use Rattle.tta_image.specs.declared.slots.SlotNumbers.{SlotNumbers}

@@ -2,11 +2,7 @@
 use Rattle.std.specs.Prelude.{◌≡◌, ℕ, ◌<◌, Bool, true, false, List, [], ◌∷◌, ◌++◌, length, replicate, codes}
 use Rattle.std.specs.Int.{w32, to_be_bytes}
 use Rattle.std.specs.List.{flat_map, AllByRecursion}
-use Rattle.tta_arch.specs.Machine.{Machine}
-use Rattle.tta_arch.specs.Fields.{word_width}
-use Rattle.tta_code.specs.declared.whole.Datum.{Datum}
-use Rattle.tta_code.specs.Whole.{Whole, rises, fits}
-use Rattle.tta_code.specs.Legal.{IsLegalCode}
+use Rattle.tta_image.specs.Cited.{Machine, word_width, Datum, Whole, rises, fits, IsLegalCode}
 use Rattle.tta_image.specs.Bits.{bits_of, code_bits}
 
 -- the bytes before the instructions: a mark, the version, the bits of an instruction, how many instructions there are,

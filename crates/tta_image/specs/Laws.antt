@@ -1,10 +1,7 @@
 -- That an image and its code with data determine each other.
 use Rattle.std.specs.Prelude.{◌≡◌, ◌↔◌, ℕ, ◌<◌, true, List, length, Ok}
 use Rattle.std.specs.List.{AllByRecursion}
-use Rattle.tta_arch.specs.Machine.{Machine}
-use Rattle.tta_arch.specs.Rules.{IsMachine}
-use Rattle.tta_code.specs.Whole.{Whole, rises, fits}
-use Rattle.tta_code.specs.Legal.{IsLegalCode}
+use Rattle.tta_image.specs.Cited.{Machine, IsMachine, Whole, rises, fits, IsLegalCode}
 use Rattle.tta_image.specs.Image.{Image}
 use Rattle.tta_image.specs.Reading.{decoded_image}
 

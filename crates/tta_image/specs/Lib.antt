@@ -1,3 +1,4 @@
+pub mod Cited
 pub mod Bits
 pub mod Image
 pub mod Sink

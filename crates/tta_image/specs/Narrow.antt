@@ -1,7 +1,7 @@
 -- How wide fields can be.
 use Rattle.std.specs.Prelude.{◌≡◌, ◌+◌, ◌<◌, ◌≤◌, List}
 use Rattle.std.specs.List.{AllByRecursion}
-use Rattle.tta_arch.specs.declared.layout.BusFields.{BusFields}
+use Rattle.tta_image.specs.Cited.{BusFields}
 
 -- the fields of a bus have so few bits that a machine word holds each of them, and all of them together
 pub record IsNarrow (f : BusFields) : Type 0 where

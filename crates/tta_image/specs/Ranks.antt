@@ -2,11 +2,9 @@
 use Rattle.std.specs.Prelude.{◌≡◌, ℕ, ◌+◌, ◌*◌, ◌≤◌, true, false, nat_lt, List, [], ◌∷◌}
 use Rattle.std.specs.List.{AllByRecursion}
 use Rattle.std.specs.List.Sorted.{IsPartitionPoint}
-use Rattle.tta_arch.specs.declared.ends.Source.{Source}
+use Rattle.tta_image.specs.Cited.{Source, Dest, BusFields}
 use Rattle.tta_arch.specs.declared.ends.Source.TheVariants as source
-use Rattle.tta_arch.specs.declared.ends.Dest.{Dest}
 use Rattle.tta_arch.specs.declared.ends.Dest.TheVariants as dest
-use Rattle.tta_arch.specs.declared.layout.BusFields.{BusFields}
 
 -- a number that says where a source stands: registers by file and index, immediates by unit and index, result ports by unit
 abbrev pub source_rank : Source → ℕ

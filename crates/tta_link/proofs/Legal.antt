@@ -8,28 +8,12 @@ use Rattle.std.proofs.lemmas.Bool.{cases_lt, and_parts, and_from}
 use Rattle.std.proofs.lemmas.Nat.{pow_pos, pow-add, div_below, le-div}
 use Rattle.std.proofs.Math.Nat.{div-mul-le_self, mul-le-mul_right}
 use Rattle.std.proofs.lemmas.Bool.Decides.{nat_tests}
-use Rattle.tta_arch.specs.declared.ends.GuardRef.{GuardRef}
+use Rattle.tta_link.specs.Cited.{GuardRef, Dest, Machine, IsMachine, are_different, joins, is_source_on, is_dest_on, has_guard, Ends, Slots, ends_of, are_apart, can_move, keeps_taken, is_joined, has_reads, has_writes, all_slots, first_some, or_else, Long, Instruction, is_legal, taken, is_instruction, is_long, Item, ItemSource, Port, Address, Slot, Bus, Template, PlacedItem, linked, carried, carries, clash, fills, fits_cycle, slots_of, taken_of, taken_by, ends_on}
 use Rattle.tta_arch.specs.declared.ends.Source.TheVariants as source
-use Rattle.tta_arch.specs.declared.ends.Dest.{Dest}
 use Rattle.tta_arch.specs.declared.parts.Template.{Template as Field}
-use Rattle.tta_arch.specs.Machine.{Machine}
-use Rattle.tta_arch.specs.Rules.{IsMachine, are_different}
-use Rattle.tta_arch.specs.Joins.{joins, is_source_on, is_dest_on, has_guard}
-use Rattle.tta_arch.specs.Legal.{Ends, Slots, ends_of, are_apart, can_move, keeps_taken, is_joined, has_reads, has_writes, all_slots}
-use Rattle.tta_arch.specs.Effects.{first_some, or_else}
 use Rattle.tta_arch.proofs.Joined.{is_joined_at}
-use Rattle.tta_code.specs.declared.code.Long.{Long}
-use Rattle.tta_code.specs.declared.code.Instruction.{Instruction}
-use Rattle.tta_code.specs.Legal.{is_legal, slots_of as slots_in, ends_of as ends_in, taken, is_instruction, is_long}
-use Rattle.tta_moves.specs.declared.items.Item.{Item}
+use Rattle.tta_code.specs.Legal.{slots_of as slots_in, ends_of as ends_in}
 use Rattle.tta_moves.specs.declared.items.Item.TheVariants as item
-use Rattle.tta_moves.specs.declared.items.ItemSource.{ItemSource}
-use Rattle.tta_moves.specs.declared.items.ItemSource.TheVariants.{Port, Address}
-use Rattle.tta_moves.specs.declared.items.Slot.{Slot}
-use Rattle.tta_moves.specs.declared.items.Slot.TheVariants.{Bus, Template}
-use Rattle.tta_moves.specs.declared.items.PlacedItem.{PlacedItem}
-use Rattle.tta_moves.specs.Meaning.{linked}
-use Rattle.tta_moves.specs.Slots.{carried, carries, clash, fills, fits_cycle, slots_of, taken_of, taken_by, ends_on}
 use Rattle.tta_link.specs.Linked.{move_on, long_on, instruction_of}
 use Rattle.tta_link.specs.Blocks.{source_within, is_within}
 use Rattle.tta_link.specs.Put.{is_word_in}

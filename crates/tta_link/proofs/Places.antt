@@ -6,20 +6,9 @@ use Rattle.std.proofs.lemmas.List.{drop_more, drop_all, get_or-append-add, lengt
 use Rattle.std.proofs.lemmas.Bool.{and_parts}
 use Rattle.std.proofs.lemmas.Bool.Decides.{nat_tests}
 use Rattle.tta_list.proofs.Lists.{list_all_one, list_all_changed, all_from, item_at as get_some}
-use Rattle.tta_arch.specs.Machine.{Machine}
-use Rattle.tta_arch.specs.Rules.{IsMachine, are_different}
-use Rattle.tta_arch.specs.Legal.{can_move}
-use Rattle.tta_code.specs.declared.code.Instruction.{Instruction}
-use Rattle.tta_moves.specs.declared.items.Item.{Item}
+use Rattle.tta_link.specs.Cited.{Machine, IsMachine, are_different, can_move, Instruction, Item, Port, Address, Slot, Bus, Template, PlacedItem, Placed, carried, carries, clash, fits_cycle, slots_of, taken_of, in_cycle}
 use Rattle.tta_moves.specs.declared.items.Item.TheVariants as item
-use Rattle.tta_moves.specs.declared.items.ItemSource.TheVariants.{Port, Address}
 use Rattle.tta_moves.specs.declared.items.LongValue.TheVariants as long
-use Rattle.tta_moves.specs.declared.items.Slot.{Slot}
-use Rattle.tta_moves.specs.declared.items.Slot.TheVariants.{Bus, Template}
-use Rattle.tta_moves.specs.declared.items.PlacedItem.{PlacedItem}
-use Rattle.tta_moves.specs.declared.items.Placed.{Placed}
-use Rattle.tta_moves.specs.Slots.{carried, carries, clash, fits_cycle, slots_of, taken_of}
-use Rattle.tta_moves.specs.Bounds.{in_cycle}
 use Rattle.tta_moves.proofs.Buses.{joins_below}
 use Rattle.tta_link.specs.Linked.{instruction_of, starts_from}
 use Rattle.tta_link.specs.Blocks.{slot_within, is_within, has_place, IsBlock, AreBlocks}

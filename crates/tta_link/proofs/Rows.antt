@@ -4,18 +4,8 @@ use Rattle.std.specs.Prelude.{◌==◌}
 use Rattle.std.specs.List.{range_with_len}
 use Rattle.std.proofs.lemmas.List.{at_drop_more, set-append_right}
 use Rattle.std.proofs.lemmas.Bool.Decides.{nat_tests}
-use Rattle.tta_arch.specs.Machine.{Machine}
-use Rattle.tta_arch.specs.Effects.{first_some, or_else}
-use Rattle.tta_code.specs.declared.code.Move.{Move}
-use Rattle.tta_code.specs.declared.code.Instruction.{Instruction}
-use Rattle.tta_moves.specs.declared.items.Item.{Item}
+use Rattle.tta_link.specs.Cited.{Machine, first_some, or_else, Move, Instruction, Item, Slot, Bus, Template, PlacedItem, Placed, linked, in_cycle}
 use Rattle.tta_moves.specs.declared.items.Item.TheVariants as item
-use Rattle.tta_moves.specs.declared.items.Slot.{Slot}
-use Rattle.tta_moves.specs.declared.items.Slot.TheVariants.{Bus, Template}
-use Rattle.tta_moves.specs.declared.items.PlacedItem.{PlacedItem}
-use Rattle.tta_moves.specs.declared.items.Placed.{Placed}
-use Rattle.tta_moves.specs.Meaning.{linked}
-use Rattle.tta_moves.specs.Bounds.{in_cycle}
 use Rattle.tta_moves.proofs.Numbered.{set_alike}
 use Rattle.tta_link.specs.Linked.{move_on, long_on, instruction_of, starts_from}
 use Rattle.tta_link.specs.Blocks.{total_length, slot_within}

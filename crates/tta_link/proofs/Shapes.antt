@@ -4,16 +4,8 @@ use Rattle.std.specs.Prelude.{cond, slice_get, count_by, not, ◌||◌, nat_le, 
 use Rattle.std.specs.Option.{option_map_or}
 use Rattle.std.specs.List.{list_any}
 use Rattle.std.proofs.lemmas.List.Sums.{sum_by-cons}
-use Rattle.tta_arch.specs.declared.ends.Source.{Source}
+use Rattle.tta_link.specs.Cited.{Source, Dest, Machine, has_bit, Ends, Slots, ends_of, same_place, are_apart, has_reads, has_writes, all_slots, all_below, reads_file, reads_imm, writes_file, ItemSource, Port, Address, linked, carried}
 use Rattle.tta_arch.specs.declared.ends.Source.TheVariants as source
-use Rattle.tta_arch.specs.declared.ends.Dest.{Dest}
-use Rattle.tta_arch.specs.Machine.{Machine}
-use Rattle.tta_arch.specs.Joins.{has_bit}
-use Rattle.tta_arch.specs.Legal.{Ends, Slots, ends_of, same_place, are_apart, has_reads, has_writes, all_slots, all_below, reads_file, reads_imm, writes_file}
-use Rattle.tta_moves.specs.declared.items.ItemSource.{ItemSource}
-use Rattle.tta_moves.specs.declared.items.ItemSource.TheVariants.{Port, Address}
-use Rattle.tta_moves.specs.Meaning.{linked}
-use Rattle.tta_moves.specs.Slots.{carried}
 
 -- ---- sources without their words
 

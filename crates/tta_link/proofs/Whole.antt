@@ -5,13 +5,7 @@ use Rattle.std.specs.List.{range_with_len, list_all, flat_map, AllByRecursion}
 use Rattle.std.proofs.lemmas.List.{length-map}
 use Rattle.std.proofs.lemmas.Bool.{and_parts, and_from}
 use Rattle.tta_list.proofs.Lists.{all_append}
-use Rattle.tta_arch.specs.Machine.{Machine}
-use Rattle.tta_arch.specs.Rules.{IsMachine}
-use Rattle.tta_code.specs.declared.code.Code.{Code}
-use Rattle.tta_code.specs.Legal.{is_legal, IsLegalCode}
-use Rattle.tta_moves.specs.declared.items.PlacedItem.{PlacedItem}
-use Rattle.tta_moves.specs.declared.items.Placed.{Placed}
-use Rattle.tta_moves.specs.Bounds.{in_cycle}
+use Rattle.tta_link.specs.Cited.{Machine, IsMachine, Code, is_legal, IsLegalCode, PlacedItem, Placed, in_cycle}
 use Rattle.tta_link.specs.Linked.{instruction_of, block_words, starts_from, IsLinked}
 use Rattle.tta_link.specs.Blocks.{is_within, total_length, IsBlock, AreBlocks}
 use Rattle.tta_link.specs.Put.{is_word_in}

@@ -1,19 +1,9 @@
 -- Placed blocks that can be linked, and how long they are.
 use Rattle.std.specs.Prelude.{◌≡◌, ⊤, ℕ, ◌+◌, ◌<◌, ◌≤◌, ◌^◌, Bool, true, ◌&&◌, nat_lt, List, [], ◌∷◌, length, Some, slice_get}
 use Rattle.std.specs.List.{list_all}
-use Rattle.tta_arch.specs.Machine.{Machine}
-use Rattle.tta_moves.specs.declared.items.Item.{Item}
+use Rattle.tta_link.specs.Cited.{Machine, Item, ItemSource, Port, Address, LongValue, Slot, Bus, Template, PlacedItem, Placed, fits_cycle, in_cycle}
 use Rattle.tta_moves.specs.declared.items.Item.TheVariants as item
-use Rattle.tta_moves.specs.declared.items.ItemSource.{ItemSource}
-use Rattle.tta_moves.specs.declared.items.ItemSource.TheVariants.{Port, Address}
-use Rattle.tta_moves.specs.declared.items.LongValue.{LongValue}
 use Rattle.tta_moves.specs.declared.items.LongValue.TheVariants as long
-use Rattle.tta_moves.specs.declared.items.Slot.{Slot}
-use Rattle.tta_moves.specs.declared.items.Slot.TheVariants.{Bus, Template}
-use Rattle.tta_moves.specs.declared.items.PlacedItem.{PlacedItem}
-use Rattle.tta_moves.specs.declared.items.Placed.{Placed}
-use Rattle.tta_moves.specs.Slots.{fits_cycle}
-use Rattle.tta_moves.specs.Bounds.{in_cycle}
 use Rattle.tta_link.specs.declared.row.LinkError.{LinkError}
 use Rattle.tta_link.specs.declared.row.LinkError.TheVariants.{CodeFull, NoMemory}
 

@@ -1,3 +1,4 @@
+pub mod Cited
 pub mod Linked
 pub mod Blocks
 pub mod Put

@@ -1,22 +1,9 @@
 -- The code of placed blocks, one after another.
 use Rattle.std.specs.Prelude.{◌≡◌, ℕ, ◌+◌, ◌<◌, ◌==◌, if◌then◌else◌, List, [], ◌∷◌, length, map, Option, Some, None, slice_get, slice_index}
 use Rattle.std.specs.List.{range_with_len, flat_map}
-use Rattle.tta_arch.specs.Machine.{Machine}
-use Rattle.tta_arch.specs.Effects.{first_some}
-use Rattle.tta_moves.specs.declared.items.Item.{Item}
+use Rattle.tta_link.specs.Cited.{Machine, first_some, Item, LongValue, Slot, Bus, Template, PlacedItem, Placed, linked, in_cycle, Move, Long, Instruction, Code}
 use Rattle.tta_moves.specs.declared.items.Item.TheVariants as item
-use Rattle.tta_moves.specs.declared.items.LongValue.{LongValue}
 use Rattle.tta_moves.specs.declared.items.LongValue.TheVariants as long
-use Rattle.tta_moves.specs.declared.items.Slot.{Slot}
-use Rattle.tta_moves.specs.declared.items.Slot.TheVariants.{Bus, Template}
-use Rattle.tta_moves.specs.declared.items.PlacedItem.{PlacedItem}
-use Rattle.tta_moves.specs.declared.items.Placed.{Placed}
-use Rattle.tta_moves.specs.Meaning.{linked}
-use Rattle.tta_moves.specs.Bounds.{in_cycle}
-use Rattle.tta_code.specs.declared.code.Move.{Move}
-use Rattle.tta_code.specs.declared.code.Long.{Long}
-use Rattle.tta_code.specs.declared.code.Instruction.{Instruction}
-use Rattle.tta_code.specs.declared.code.Code.{Code}
 
 -- the move that an item is on a bus, if its slot is that bus; an address is the word of its block
 abbrev pub move_on : (addr : List ℕ) → (bus : ℕ) → Slot → Item → Option Move

@@ -1,12 +1,8 @@
 -- One item in its instruction.
 use Rattle.std.specs.Prelude.{ℕ, ◌^◌, Bool, true, nat_lt, List, Some, slice_set}
 use Rattle.std.specs.Option.{option_map_or}
-use Rattle.tta_code.specs.declared.code.Instruction.{Instruction}
-use Rattle.tta_moves.specs.declared.items.Item.{Item}
+use Rattle.tta_link.specs.Cited.{Instruction, Item, Slot, Bus, Template, linked}
 use Rattle.tta_moves.specs.declared.items.Item.TheVariants as item
-use Rattle.tta_moves.specs.declared.items.Slot.{Slot}
-use Rattle.tta_moves.specs.declared.items.Slot.TheVariants.{Bus, Template}
-use Rattle.tta_moves.specs.Meaning.{linked}
 use Rattle.tta_link.specs.Linked.{long_word}
 
 -- an instruction with one item more, on a slot

@@ -1,9 +1,8 @@
 -- What comes after the last step of a block: a return, or nothing.
 use Rattle.std.proofs.Common.{◌≡◌, [], ℕ, Option, Some, None, true, false, refl}
 use Rattle.std.specs.List.{sum_by}
-use Rattle.tta_program.specs.declared.step.Step.{Step}
+use Rattle.tta_lower.specs.Cited.{Step, Program}
 use Rattle.tta_program.specs.declared.step.Step.TheVariants.{Invoke}
-use Rattle.tta_program.specs.Program.{Program}
 use Rattle.tta_lower.specs.Liveness.{Known, Block}
 use Rattle.tta_lower.specs.Shape.{may_fall, is_call}
 use Rattle.tta_lower.specs.Lower.{return_after, homes_of, live_past, steps_in}

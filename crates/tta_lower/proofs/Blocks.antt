@@ -1,14 +1,9 @@
 -- A leg from its first block on.
 use Rattle.std.proofs.Common.{◌≡◌, ◌≤◌, ◌+◌, ◌-◌, ◌++◌, ◌∷◌, [], ℕ, suc, List, Option, Some, length, drop, slice_get, refl, sym, ap, ◌∙◌, subst, ap₂, arith}
-use Rattle.tta_ops.specs.Units.{Units}
-use Rattle.tta_program.specs.declared.step.Step.{Step}
-use Rattle.tta_program.specs.Program.{Program}
-use Rattle.tta_program.specs.Rules.{IsProgram}
+use Rattle.tta_lower.specs.Cited.{Units, Step, Program, IsProgram, Running, Waiting, step_at, RBlock, Rir, Kept, steps_of, walk}
 use Rattle.tta_program.specs.Sequential as program
-use Rattle.tta_program.specs.Sequential.{Frame, Running, Waiting, step_at}
-use Rattle.tta_rcode.specs.declared.code.RBlock.{RBlock}
-use Rattle.tta_rcode.specs.declared.code.Rir.{Rir}
-use Rattle.tta_rcode.specs.Meaning.{State, Kept, steps_of, walk}
+use Rattle.tta_program.specs.Sequential.{Frame}
+use Rattle.tta_rcode.specs.Meaning.{State}
 use Rattle.tta_lower.specs.Liveness.{Known, Block, Has, IsFlow, IsHomes}
 use Rattle.tta_lower.specs.Layout.{vars_of, steps_for, code_from}
 use Rattle.tta_lower.specs.Shape.{Counts, BlockFor, IsLowered}

@@ -2,11 +2,8 @@
 use Rattle.std.proofs.Common.{◌≡◌, ◌<◌, ◌≤◌, ◌+◌, ◌==◌, ◌∷◌, [], ℕ, suc, Bool, List, Option, Some, None, true, false, is_some, filter, slice_get, refl, sym, ap, ◌∙◌, subst, arith, ◌⊎◌, inl, inr}
 use Rattle.std.proofs.lemmas.Bool.{eqb-true, cases_lt, or_cases, false≢true}
 use Rattle.tta_list.proofs.Lists.{some_within}
-use Rattle.tta_program.specs.declared.step.Step.{Step}
-use Rattle.tta_program.specs.declared.step.Step.TheVariants.{Copy, Apply, Load, Take, Store, Put, If, Goto, When, Invoke, Return, Halt, End}
-use Rattle.tta_program.specs.declared.program.Proc.{Proc}
-use Rattle.tta_program.specs.Program.{Program}
-use Rattle.tta_program.specs.Sequential.{step_at}
+use Rattle.tta_lower.specs.Cited.{Step, Load, Take, Store, When, End, Proc, Program, step_at}
+use Rattle.tta_program.specs.declared.step.Step.TheVariants.{Copy, Apply, Put, If, Goto, Invoke, Return, Halt}
 use Rattle.tta_lower.specs.Liveness.{Block, Has, Begins, Homes, StepThere, Reached, First, Then, IsFlow, IsHomes, leads, is_plain}
 use Rattle.tta_lower.specs.Lower.{spans_of, EndsBefore, InOrder}
 use Rattle.tta_lower.specs.FlowFacts.{names_step, IsFirst, AtBegin, Named, AfterStep, StandsBefore, AreBlocks, AtEntry, AtStep, HomeLaw}

@@ -4,16 +4,12 @@ use Rattle.std.specs.Prelude.{⊤}
 use Rattle.std.specs.Option.{option_map_or}
 use Rattle.std.specs.List.{list_all, list_any}
 use Rattle.std.proofs.lemmas.Bool.{eq-eqb, ne_eqb, eqb-true, and_parts, or_cases, or_right, not-true, ltb-true, false≢true}
-use Rattle.tta_program.specs.declared.operand.Src.{Src}
-use Rattle.tta_program.specs.declared.operand.Src.TheVariants.{Var, Word}
-use Rattle.tta_program.specs.declared.step.Step.{Step}
-use Rattle.tta_program.specs.declared.step.Step.TheVariants.{Copy, Apply, Load, Take, Store, Put, If, Goto, When, Invoke, Return, Halt, End}
-use Rattle.tta_program.specs.declared.program.Proc.{Proc}
-use Rattle.tta_program.specs.Program.{Program}
-use Rattle.tta_program.specs.Rules.{IsProgram, is_step, is_src, Reaches, ByCall, ByMore, calls, calls_proc}
+use Rattle.tta_lower.specs.Cited.{Src, Var, Step, Load, Take, Store, When, End, Proc, Program, IsProgram, is_step, is_src, Reaches, ByCall, ByMore, calls, calls_proc, step_at, Kept, found, plain}
+use Rattle.tta_program.specs.declared.operand.Src.TheVariants.{Word}
+use Rattle.tta_program.specs.declared.step.Step.TheVariants.{Copy, Apply, Put, If, Goto, Invoke, Return, Halt}
 use Rattle.tta_program.specs.Rules as rules
-use Rattle.tta_program.specs.Sequential.{Frame, step_at}
-use Rattle.tta_rcode.specs.Meaning.{Kept, Return, found, plain}
+use Rattle.tta_program.specs.Sequential.{Frame}
+use Rattle.tta_rcode.specs.Meaning.{Return}
 use Rattle.tta_lower.specs.Liveness.{LiveBefore, Reads, Leads, LiveAfter, After, Block, is_var, reads}
 use Rattle.tta_lower.specs.Layout.{vars_of, var_slot, back_slot, own, InFrame}
 use Rattle.tta_lower.specs.Relation.{IsCaller, KeepsBack, Callers, UntouchedFrame}

@@ -7,23 +7,15 @@ use Rattle.std.proofs.lemmas.Bool.{eq-eqb, ne_eqb, and_from, and_parts, ltb-true
 use Rattle.std.proofs.lemmas.List.Folds.{list_all-append}
 use Rattle.std.proofs.lemmas.Option.{slice_get_within}
 use Rattle.tta_list.proofs.Lists.{all_one}
-use Rattle.tta_program.specs.declared.operand.Src.{Src}
-use Rattle.tta_program.specs.declared.operand.Src.TheVariants.{Var, Word}
-use Rattle.tta_program.specs.declared.step.Step.{Step}
-use Rattle.tta_program.specs.declared.step.Step.TheVariants.{Copy, Apply, Load, Take, Store, Put, If, Goto, When, Invoke, Return, Halt, End}
-use Rattle.tta_program.specs.declared.program.Proc.{Proc}
-use Rattle.tta_program.specs.Program.{Program}
-use Rattle.tta_program.specs.Rules.{IsProgram, IsProc, is_step, is_src}
-use Rattle.tta_program.specs.Sequential.{step_at}
-use Rattle.tta_rcode.specs.declared.code.Place.{Place}
+use Rattle.tta_lower.specs.Cited.{Src, Var, Step, Load, Take, Store, When, End, Proc, Program, IsProgram, IsProc, is_step, is_src, step_at, Place, RSrc, src_passes, step_passes, exit_passes}
+use Rattle.tta_program.specs.declared.operand.Src.TheVariants.{Word}
+use Rattle.tta_program.specs.declared.step.Step.TheVariants.{Copy, Apply, Put, If, Goto, Invoke, Return, Halt}
 use Rattle.tta_rcode.specs.declared.code.Place.TheVariants.{Frame}
-use Rattle.tta_rcode.specs.declared.code.RSrc.{RSrc}
 use Rattle.tta_rcode.specs.declared.code.RSrc.TheVariants as rsrc
 use Rattle.tta_rcode.specs.declared.code.RStep.TheVariants as rstep
 use Rattle.tta_lower.specs.Liveness.{Homes}
 use Rattle.tta_lower.specs.Layout
 use Rattle.tta_lower.specs.Layout.{vars_of, params_of, var_slot, value_slot, back_slot, place, source, passes, gives, steps_for, code_from, exit_for, keeps_ra, first_value, sets, sets_from}
-use Rattle.tta_rcode.specs.Closed.{src_passes, step_passes, exit_passes}
 use Rattle.tta_lower.proofs.Steps.{StepOf, step_of}
 use Rattle.tta_lower.proofs.Callers.{called, vars-are}
 

@@ -4,23 +4,17 @@ use Rattle.std.specs.Option.{option_map_or}
 use Rattle.std.specs.List.{list_all}
 use Rattle.std.proofs.lemmas.Bool.{eq-eqb, ne_eqb, and_parts, cases_eq, ltb-true}
 use Rattle.std.proofs.lemmas.Option.{none-some}
-use Rattle.tta_ops.specs.Units.{Units}
+use Rattle.tta_lower.specs.Cited.{Units, Proc, Program, IsProgram, is_src, Running, step_at, enter, next, RStep, RBlock, Rir, Kept, Plain, put_reg, put_slot, found, plain, word, steps_of, walk, stay, leg, Place}
 use Rattle.tta_program.specs.declared.step.Step.TheVariants.{Invoke}
-use Rattle.tta_program.specs.declared.program.Proc.{Proc}
-use Rattle.tta_program.specs.Program.{Program}
-use Rattle.tta_program.specs.Rules.{IsProgram, is_src}
 use Rattle.tta_program.specs.Rules as rules
 use Rattle.tta_program.specs.Sequential as program
-use Rattle.tta_program.specs.Sequential.{Frame, Running, step_at, enter, next, returns}
+use Rattle.tta_program.specs.Sequential.{Frame, returns}
 use Rattle.tta_rcode.specs.declared.code.Place.TheVariants as places
 use Rattle.tta_rcode.specs.declared.code.RSrc.TheVariants as rsrc
-use Rattle.tta_rcode.specs.declared.code.RStep.{RStep}
 use Rattle.tta_rcode.specs.declared.code.RStep.TheVariants as rstep
 use Rattle.tta_rcode.specs.declared.code.Exit.TheVariants as exit
-use Rattle.tta_rcode.specs.declared.code.RBlock.{RBlock}
-use Rattle.tta_rcode.specs.declared.code.Rir.{Rir}
 use Rattle.tta_rcode.specs.Meaning as code
-use Rattle.tta_rcode.specs.Meaning.{State, Kept, Plain, Return as ReturnTo, put_reg, put_slot, found, plain, word, steps_of, walk, stay, leg}
+use Rattle.tta_rcode.specs.Meaning.{State, Return as ReturnTo}
 use Rattle.tta_lower.specs.Liveness.{Known, LiveBefore, LiveAfter, After, Reached, IsFlow, IsHomes}
 use Rattle.tta_lower.specs.Layout.{vars_of, params_of, var_slot, value_slot, back_slot, place, place_by, keeps_ra, sets_from}
 use Rattle.tta_lower.specs.Shape.{Counts, StartsAt, ReturnFor, IsLowered, is_call, is_kept}
@@ -31,7 +25,6 @@ use Rattle.tta_lower.proofs.Callers.{outside, callers-stay, live-below, vars-are
 use Rattle.tta_lower.proofs.Exits.{fall}
 use Rattle.tta_lower.proofs.Passing.{copy-place}
 use Rattle.tta_lower.proofs.Frames.{frame-by-vars, other-own, not-main, back-own, enter-length, enter-zero}
-use Rattle.tta_rcode.specs.declared.code.Place.{Place}
 use Rattle.tta_lower.specs.Shape
 use Rattle.std.proofs.lemmas.Bool.{eqb-true}
 use Rattle.tta_lower.proofs.Walks.{Walked, walked-after, walked-code}

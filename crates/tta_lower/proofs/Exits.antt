@@ -1,15 +1,9 @@
 -- How a block ends, exit by exit.
 use Rattle.std.proofs.Common.{◌≡◌, ◌+◌, ◌++◌, ◌∷◌, [], ℕ, zero, suc, List, Option, Some, true, false, refl, sym, ap, ◌∙◌, arith, add-zero, append_assoc}
 use Rattle.std.specs.Option.{option_map_or}
-use Rattle.tta_ops.specs.Units.{Units}
-use Rattle.tta_program.specs.declared.operand.Rel.{Rel}
-use Rattle.tta_program.specs.declared.step.Step.{Step}
-use Rattle.tta_program.specs.Program.{Program}
-use Rattle.tta_program.specs.Sequential.{Running, Halted, Waiting, step_at, holds}
-use Rattle.tta_rcode.specs.declared.code.RSrc.{RSrc}
-use Rattle.tta_rcode.specs.declared.code.RBlock.{RBlock}
-use Rattle.tta_rcode.specs.declared.code.Exit.TheVariants.{Next, Goto, If, Invoke, Back, Halt}
-use Rattle.tta_rcode.specs.Meaning.{State, Kept, Return, found, operand, steps_of, walk, stay}
+use Rattle.tta_lower.specs.Cited.{Units, Rel, Step, Program, Running, Halted, Waiting, step_at, holds, RSrc, RBlock, Next, Back, Kept, found, operand, steps_of, walk, stay}
+use Rattle.tta_rcode.specs.declared.code.Exit.TheVariants.{Goto, If, Invoke, Halt}
+use Rattle.tta_rcode.specs.Meaning.{State, Return}
 use Rattle.tta_lower.specs.Liveness.{Homes}
 use Rattle.tta_lower.specs.Layout.{steps_for, code_from}
 use Rattle.tta_lower.specs.Relation.{going}

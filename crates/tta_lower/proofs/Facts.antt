@@ -6,12 +6,9 @@ use Rattle.std.proofs.lemmas.Bool.{and_from, and_parts, lt-ltb, ltb-true}
 use Rattle.std.proofs.lemmas.Bool.Decides.{nat_tests}
 use Rattle.std.proofs.lemmas.Option.{slice_get_within}
 use Rattle.tta_list.proofs.Lists.{all_one}
-use Rattle.tta_program.specs.declared.step.Step.{Step}
-use Rattle.tta_program.specs.declared.step.Step.TheVariants.{Copy, Apply, Load, Take, Store, Put, If, Goto, When, Invoke, Return, Halt, End}
-use Rattle.tta_program.specs.declared.program.Proc.{Proc}
-use Rattle.tta_program.specs.Program.{Program}
-use Rattle.tta_program.specs.Rules.{IsProgram, IsProc, is_step, is_src, is_call}
-use Rattle.tta_program.specs.Sequential.{step_at}
+use Rattle.tta_lower.specs.Cited.{Step, Load, Take, Store, When, End, Proc, Program, IsProgram, IsProc, is_step, is_src, step_at}
+use Rattle.tta_program.specs.declared.step.Step.TheVariants.{Copy, Apply, Put, If, Goto, Invoke, Return, Halt}
+use Rattle.tta_program.specs.Rules.{is_call}
 use Rattle.tta_lower.specs.declared.numbers.Numbers.{Numbers}
 use Rattle.tta_flow.specs.Blocks as flows
 use Rattle.tta_lower.specs.Liveness.{Known, Block, Has, IsFlow}

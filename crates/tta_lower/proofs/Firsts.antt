@@ -5,11 +5,8 @@ use Rattle.std.proofs.lemmas.Bool.{eqb-true, cases_eq}
 use Rattle.std.proofs.lemmas.List.{length_push, get_or_append_left, get_or_at}
 use Rattle.std.proofs.lemmas.Option.{slice_get-get_or}
 use Rattle.tta_list.proofs.Lists.{all_one, some_within}
-use Rattle.tta_program.specs.declared.program.Proc.{Proc}
-use Rattle.tta_program.specs.Program.{Program}
-use Rattle.tta_program.specs.Rules.{IsProgram, IsProc}
+use Rattle.tta_lower.specs.Cited.{Proc, Program, IsProgram, IsProc, frame_need}
 use Rattle.tta_lower.specs.Layout.{vars_of, params_of, own, base, slots_before}
-use Rattle.tta_program.specs.Sizes.{frame_need}
 use Rattle.tta_lower.specs.Tables.{AreFirsts}
 use Rattle.tta_lower.specs.Laid.{AreLaid}
 use Rattle.tta_lower.proofs.Shutting.{main_among, all-slots, main-there}

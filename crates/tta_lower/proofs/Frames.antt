@@ -2,11 +2,8 @@
 use Rattle.std.proofs.Common.{◌≡◌, ◌≢◌, ◌<◌, ◌≤◌, ◌-◌, ◌∷◌, [], ℕ, List, Some, length, replicate, slice_get, slice_index, refl, sym, ◌∙◌, subst, arith, inl, inr, length-append}
 use Rattle.std.proofs.lemmas.Bool.{eq-eqb, ne_eqb, cases_lt}
 use Rattle.std.proofs.lemmas.List.{length-replicate, get_or-replicate, get_or_append_left, get_or-append_right, get_or_past}
-use Rattle.tta_program.specs.declared.program.Proc.{Proc}
-use Rattle.tta_program.specs.Program.{Program}
-use Rattle.tta_program.specs.Rules.{IsProgram}
-use Rattle.tta_program.specs.Sequential.{Frame, enter}
-use Rattle.tta_rcode.specs.Meaning.{Kept}
+use Rattle.tta_lower.specs.Cited.{Proc, Program, IsProgram, enter, Kept}
+use Rattle.tta_program.specs.Sequential.{Frame}
 use Rattle.tta_lower.specs.Liveness.{Block}
 use Rattle.tta_lower.specs.Layout.{vars_of, var_slot, back_slot, own, InFrame}
 use Rattle.tta_lower.specs.Relation.{KeepsBack, Callers, Untouched, UntouchedFrame}

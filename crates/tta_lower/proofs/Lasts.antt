@@ -8,19 +8,12 @@ use Rattle.std.proofs.lemmas.List.{length-map}
 use Rattle.std.proofs.lemmas.List.Concat.{flat_map-append}
 use Rattle.std.proofs.lemmas.Option.{slice_get-map, slice_get_within}
 use Rattle.tta_list.proofs.Lists.{slice_get-back, some_within}
-use Rattle.tta_program.specs.declared.step.Step.{Step}
-use Rattle.tta_program.specs.declared.step.Step.TheVariants.{Copy, Apply, Load, Take, Store, Put, If, Goto, When, Invoke, Return, Halt, End}
-use Rattle.tta_program.specs.declared.program.Proc.{Proc}
-use Rattle.tta_program.specs.Program.{Program}
-use Rattle.tta_program.specs.Rules.{IsProgram}
-use Rattle.tta_program.specs.Sequential.{step_at}
-use Rattle.tta_rcode.specs.declared.code.RBlock.{RBlock}
+use Rattle.tta_lower.specs.Cited.{Step, Load, Take, Store, When, End, Proc, Program, IsProgram, step_at, RBlock, frame_need, block_passes, is_not_slot, wants_next}
+use Rattle.tta_program.specs.declared.step.Step.TheVariants.{Copy, Apply, Put, If, Goto, Invoke, Return, Halt}
 use Rattle.tta_rcode.specs.declared.code.Exit.TheVariants as exit
 use Rattle.tta_lower.specs.Liveness.{Known, Block, Has, IsFlow, leads}
 use Rattle.tta_lower.specs.Layout.{vars_of, own, base, var_slot, value_slot, back_slot, size, place, place_by, exit_for}
 use Rattle.tta_lower.specs.Lower.{numbers, code_order, spans_of, Part, Steps, return_after, span_parts, entry_parts, proc_parts, parts, number_of, entry_number, block_of, EndsBefore, InOrder, Answers}
-use Rattle.tta_program.specs.Sizes.{frame_need}
-use Rattle.tta_rcode.specs.Closed.{block_passes, is_not_slot, wants_next}
 use Rattle.tta_lower.proofs.Slots.{one-frame}
 use Rattle.tta_lower.proofs.Frames.{other-own}
 use Rattle.tta_lower.proofs.Lists.{In, in-has, in-filter, filter-in, has-in, in-numbers, in-any, numbers-below}

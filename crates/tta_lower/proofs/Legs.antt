@@ -4,22 +4,13 @@ use Rattle.std.specs.Prelude.{if◌then◌else◌}
 use Rattle.std.proofs.lemmas.Bool.{eq-eqb, or_left, or_right}
 use Rattle.std.proofs.lemmas.List.{length-map}
 use Rattle.tta_list.proofs.Lists.{all_one}
-use Rattle.tta_ops.specs.Units.{Units}
-use Rattle.tta_program.specs.declared.operand.Src.{Src}
-use Rattle.tta_program.specs.declared.operand.Rel.{Rel}
-use Rattle.tta_program.specs.declared.step.Step.{Step}
-use Rattle.tta_program.specs.declared.step.Step.TheVariants.{Copy, Apply, Load, Take, Store, Put, If, Goto, When, Invoke, Return, Halt, End}
-use Rattle.tta_program.specs.Program.{Program}
-use Rattle.tta_program.specs.Rules.{IsProgram, IsProc}
+use Rattle.tta_lower.specs.Cited.{Units, Src, Rel, Step, Load, Take, Store, When, End, Program, IsProgram, IsProc, Running, Halted, Waiting, step_at, holds, enter, next, goes_through, RSrc, RStep, RBlock, Rir, Kept, found, plain, word, steps_of, walk, stay}
+use Rattle.tta_program.specs.declared.step.Step.TheVariants.{Copy, Apply, Put, If, Goto, Invoke, Return, Halt}
 use Rattle.tta_program.specs.Sequential as program
-use Rattle.tta_program.specs.Sequential.{Frame, Running, Halted, Waiting, step_at, holds, enter, next, goes_through, returns}
-use Rattle.tta_rcode.specs.declared.code.RSrc.{RSrc}
+use Rattle.tta_program.specs.Sequential.{Frame, returns}
 use Rattle.tta_rcode.specs.declared.code.RSrc.TheVariants as rsrc
-use Rattle.tta_rcode.specs.declared.code.RStep.{RStep}
-use Rattle.tta_rcode.specs.declared.code.RBlock.{RBlock}
-use Rattle.tta_rcode.specs.declared.code.Rir.{Rir}
 use Rattle.tta_rcode.specs.Meaning as code
-use Rattle.tta_rcode.specs.Meaning.{State, Kept, found, plain, word, steps_of, walk, stay}
+use Rattle.tta_rcode.specs.Meaning.{State}
 use Rattle.tta_lower.specs.Liveness.{Known, Reads, After, Reached, Block, Has, IsFlow, IsHomes, is_plain, is_var, reads, assigned, leads}
 use Rattle.tta_lower.specs.Layout.{vars_of, params_of, var_slot, place_by, source, gives, steps_for, exit_for, InFrame, back as back_exit}
 use Rattle.tta_lower.specs.Shape.{Counts, BlockFor, IsLowered, may_fall, is_call}

@@ -3,10 +3,8 @@ use Rattle.std.proofs.Common.{◌≡◌, ◌<◌, ◌≤◌, ◌+◌, ◌∷◌,
 use Rattle.std.specs.Option.{option_map_or}
 use Rattle.std.specs.List.{sum_by}
 use Rattle.std.proofs.lemmas.List.Sums.{sum_by-cons}
-use Rattle.tta_program.specs.declared.step.Step.{Step}
-use Rattle.tta_program.specs.declared.step.Step.TheVariants.{Copy, Apply, Load, Take, Store, Put, When}
-use Rattle.tta_program.specs.Program.{Program}
-use Rattle.tta_program.specs.Sequential.{step_at}
+use Rattle.tta_lower.specs.Cited.{Step, Load, Take, Store, When, Program, step_at}
+use Rattle.tta_program.specs.declared.step.Step.TheVariants.{Copy, Apply, Put}
 use Rattle.tta_lower.specs.Liveness.{Homes}
 use Rattle.tta_lower.specs.Layout.{steps_for, code_from}
 use Rattle.tta_lower.specs.Liveness.{PlainAt, is_plain}

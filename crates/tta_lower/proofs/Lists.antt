@@ -5,7 +5,7 @@ use Rattle.std.proofs.lemmas.Bool.{eq-eqb, eqb-true, cases_eq, or_left, or_right
 use Rattle.std.proofs.lemmas.List.Concat.{flat_map-append}
 use Rattle.std.proofs.lemmas.Option.{same_Some}
 use Rattle.tta_list.proofs.Lists.{slice_get-back, slice_get-longer}
-use Rattle.tta_program.specs.Program.{Program}
+use Rattle.tta_lower.specs.Cited.{Program}
 use Rattle.tta_lower.specs.Liveness.{Block}
 pub use Rattle.tta_lower.specs.Members.{In}
 use Rattle.tta_lower.specs.Lower.{numbers, procs_before, spans_before, EndsBefore, InOrder}

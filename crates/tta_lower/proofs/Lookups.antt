@@ -2,9 +2,8 @@
 use Rattle.std.proofs.Common.{◌≡◌, ◌≢◌, ◌==◌, ◌∷◌, [], ℕ, Bool, List, Some, true, false, refl, sym, ap, ◌∙◌}
 use Rattle.std.specs.List.{list_any}
 use Rattle.std.proofs.lemmas.Bool.{eq-eqb, ne_eqb, eqb-true}
-use Rattle.tta_rcode.specs.declared.code.Place.{Place}
+use Rattle.tta_lower.specs.Cited.{Place, Kept, Plain, found, plain, word, put_reg, put_slot, stay}
 use Rattle.tta_rcode.specs.declared.code.Place.TheVariants.{Reg, Frame}
-use Rattle.tta_rcode.specs.Meaning.{Kept, Plain, found, plain, word, put_reg, put_slot, stay}
 
 -- what was found first
 pub found-same : {A : Type 0} (k : ℕ) (v : A) (es : List (ℕ × A)) → found k ((k, v) ∷ es) ≡ Some v

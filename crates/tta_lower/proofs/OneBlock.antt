@@ -3,12 +3,9 @@ use Rattle.std.proofs.Common.{◌≡◌, ◌≢◌, ◌<◌, ◌≤◌, ◌+◌,
 use Rattle.std.specs.List.{list_any}
 use Rattle.std.proofs.lemmas.Bool.{eq-eqb, eqb-true, cases_lt, cases_order, and_parts, false≢true, false_from_ne_true}
 use Rattle.std.proofs.lemmas.List.{drop_all, drop_more}
-use Rattle.tta_program.specs.declared.operand.Src.TheVariants.{Var, Word}
-use Rattle.tta_program.specs.declared.step.Step.{Step}
-use Rattle.tta_program.specs.declared.step.Step.TheVariants.{Put, Halt, End}
-use Rattle.tta_program.specs.declared.program.Proc.{Proc}
-use Rattle.tta_program.specs.declared.program.DataLine.{DataLine}
-use Rattle.tta_program.specs.Sequential.{step_at}
+use Rattle.tta_lower.specs.Cited.{Var, Step, End, Proc, DataLine, step_at, only_constants, puts, alone, one_block}
+use Rattle.tta_program.specs.declared.operand.Src.TheVariants.{Word}
+use Rattle.tta_program.specs.declared.step.Step.TheVariants.{Put, Halt}
 use Rattle.tta_rcode.specs.declared.code.RSrc.TheVariants as rsrc
 use Rattle.tta_rcode.specs.declared.code.RStep.TheVariants as rstep
 use Rattle.tta_lower.specs.Liveness.{Known, Block, Has, Homes, Reached, First, Then, LiveBefore, Reads, Leads, LiveAfter, After, reads, leads, is_plain}
@@ -17,8 +14,6 @@ use Rattle.tta_lower.specs.Lower.{numbers, is_home_of, homes_of, lowered, Answer
 use Rattle.tta_lower.specs.FlowFacts.{names_step, IsFirst, AtBegin, Named, AfterStep, IsRun, AreBlocks}
 use Rattle.tta_lower.proofs.Exits.{code_from-more}
 use Rattle.tta_lower.proofs.Staying.{any-there}
-use Rattle.tta_program.specs.Direct.{only_constants, puts, alone}
-use Rattle.tta_rcode.specs.Direct.{one_block}
 use Rattle.tta_list.proofs.Tests.{some_same}
 
 -- the step at which such a run ends

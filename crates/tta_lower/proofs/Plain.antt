@@ -1,21 +1,12 @@
 -- One step that only goes on: the program's run and that of the register code make it alike.
 use Rattle.std.proofs.Common.{◌≡◌, ◌≢◌, ◌<◌, ◌+◌, ◌==◌, ◌&&◌, ◌++◌, ◌∷◌, [], ℕ, Bool, List, Option, Some, None, true, false, length, slice_set, slice_index, refl, sym, ap, ◌∙◌, arith, inl, inr, nat_lt, get_or-set_same, get_or-set_other, length-set}
 use Rattle.std.proofs.lemmas.Bool.{eq-eqb, cases_eq, and_parts, or_left, or_right, ltb-true}
-use Rattle.tta_ops.specs.Units.{Units}
-use Rattle.tta_ops.specs.declared.OpId.{OpId}
-use Rattle.tta_program.specs.declared.operand.Rel.{Rel}
-use Rattle.tta_program.specs.declared.operand.Src.{Src}
-use Rattle.tta_program.specs.declared.operand.Src.TheVariants.{Var, Word}
-use Rattle.tta_program.specs.declared.step.Step.{Step}
-use Rattle.tta_program.specs.declared.step.Step.TheVariants.{Copy, Apply, Load, Take, Store, Put, When}
-use Rattle.tta_program.specs.declared.program.Proc.{Proc}
-use Rattle.tta_program.specs.Program.{Program}
-use Rattle.tta_program.specs.Rules.{IsProgram, is_step, is_src}
+use Rattle.tta_lower.specs.Cited.{Units, OpId, Rel, Src, Var, Step, Load, Take, Store, When, Proc, Program, IsProgram, is_step, is_src, Running, Waiting, step_at, holds, goes_through, next, RStep, Kept, Plain, found, plain, word, put_reg, put_slot, step}
+use Rattle.tta_program.specs.declared.operand.Src.TheVariants.{Word}
+use Rattle.tta_program.specs.declared.step.Step.TheVariants.{Copy, Apply, Put}
 use Rattle.tta_program.specs.Sequential as program
-use Rattle.tta_program.specs.Sequential.{Frame, Running, Waiting, step_at, holds, goes_through, next}
-use Rattle.tta_rcode.specs.declared.code.RStep.{RStep}
+use Rattle.tta_program.specs.Sequential.{Frame}
 use Rattle.tta_rcode.specs.Meaning as code
-use Rattle.tta_rcode.specs.Meaning.{Kept, Plain, found, plain, word, put_reg, put_slot, step}
 use Rattle.tta_lower.specs.Liveness.{LiveBefore, Reads, Leads, LiveAfter, After, Reached, ByAssigned, ByAfter, Homes, IsHomes, is_plain, is_var, reads, assigned}
 use Rattle.tta_lower.specs.Layout.{vars_of, var_slot, place, place_by, source, steps_for}
 use Rattle.tta_lower.specs.Relation.{running, going, HeldBefore, HeldAfter, Untouched}

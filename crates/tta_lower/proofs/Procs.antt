@@ -2,8 +2,7 @@
 use Rattle.std.proofs.Common.{◌≡◌, ◌<◌, ℕ, Option, Some, None, length, slice_get, is_some, refl, sym, ap, ◌∙◌, arith}
 use Rattle.std.proofs.lemmas.Bool.{false≢true}
 use Rattle.tta_list.proofs.Lists.{some_within}
-use Rattle.tta_program.specs.declared.program.Proc.{Proc}
-use Rattle.tta_program.specs.Program.{Program}
+use Rattle.tta_lower.specs.Cited.{Proc, Program}
 use Rattle.tta_lower.specs.Layout.{vars_of}
 
 -- a procedure that is there

@@ -4,19 +4,13 @@ use Rattle.std.specs.Option.{option_map_or}
 use Rattle.std.specs.List.{list_all}
 use Rattle.std.proofs.lemmas.Bool.{eq-eqb, ne_eqb, and_parts, ltb-true}
 use Rattle.std.proofs.lemmas.Option.{none-some}
-use Rattle.tta_ops.specs.Units.{Units}
-use Rattle.tta_program.specs.declared.step.Step.{Step}
+use Rattle.tta_lower.specs.Cited.{Units, Step, Program, IsProgram, is_src, Running, Halted, step_at, next, take_value, RSrc, RBlock, Rir, Kept, Plain, found, plain, word, steps_of, walk, stay}
 use Rattle.tta_program.specs.declared.step.Step.TheVariants.{Invoke}
-use Rattle.tta_program.specs.Program.{Program}
-use Rattle.tta_program.specs.Rules.{IsProgram, is_src}
 use Rattle.tta_program.specs.Rules as rules
 use Rattle.tta_program.specs.Sequential as program
-use Rattle.tta_program.specs.Sequential.{Frame, Running, Halted, step_at, next, take_value, returns}
-use Rattle.tta_rcode.specs.declared.code.RSrc.{RSrc}
-use Rattle.tta_rcode.specs.declared.code.RBlock.{RBlock}
-use Rattle.tta_rcode.specs.declared.code.Rir.{Rir}
+use Rattle.tta_program.specs.Sequential.{Frame, returns}
 use Rattle.tta_rcode.specs.Meaning as code
-use Rattle.tta_rcode.specs.Meaning.{State, Kept, Plain, found, plain, word, steps_of, walk, stay}
+use Rattle.tta_rcode.specs.Meaning.{State}
 use Rattle.tta_lower.specs.Liveness.{Known, LiveAfter, After, Reached, Block, Has, IsFlow, IsHomes}
 use Rattle.tta_lower.specs.Layout.{value_slot, back_slot, place_by, gives, back as back_exit}
 use Rattle.tta_lower.specs.Shape.{Counts, BlockFor, IsLowered}

@@ -4,14 +4,8 @@ use Rattle.std.specs.Prelude.{if◌then◌else◌}
 use Rattle.std.specs.List.{list_all}
 use Rattle.std.proofs.lemmas.Bool.{and_parts}
 use Rattle.std.proofs.lemmas.List.{drop_more}
-use Rattle.tta_program.specs.declared.operand.Src.{Src}
-use Rattle.tta_program.specs.Rules.{is_src}
-use Rattle.tta_program.specs.declared.step.Step.{Step}
-use Rattle.tta_program.specs.declared.program.Proc.{Proc}
-use Rattle.tta_program.specs.Sequential.{step_at}
-use Rattle.tta_program.specs.Program.{Program}
+use Rattle.tta_lower.specs.Cited.{Src, is_src, Step, Proc, step_at, Program, RStep}
 use Rattle.tta_rcode.specs.declared.code.Place.TheVariants as places
-use Rattle.tta_rcode.specs.declared.code.RStep.{RStep}
 use Rattle.tta_rcode.specs.declared.code.RStep.TheVariants as rstep
 use Rattle.tta_lower.specs.Liveness.{Homes}
 use Rattle.tta_lower.specs.Layout.{var_slot, source, passes, steps_for, code_from, sets, sets_from}

@@ -1,15 +1,9 @@
 -- Several steps that only go on.
 use Rattle.std.proofs.Common.{◌≡◌, ◌<◌, ◌≤◌, ◌+◌, ◌++◌, ◌∷◌, [], ℕ, zero, suc, List, Option, Some, true, length, refl, ap, ◌∙◌, arith}
 use Rattle.std.proofs.lemmas.Bool.{eq-eqb}
-use Rattle.tta_list.specs.Iterate.{iterate}
-use Rattle.tta_ops.specs.Units.{Units}
-use Rattle.tta_program.specs.declared.step.Step.{Step}
-use Rattle.tta_program.specs.declared.step.Step.TheVariants.{Copy, Apply, Load, Take, Store, Put, When}
-use Rattle.tta_program.specs.Program.{Program}
-use Rattle.tta_program.specs.Rules.{IsProgram}
-use Rattle.tta_program.specs.Sequential.{Frame, Running, Waiting, step_at, next}
-use Rattle.tta_rcode.specs.declared.code.RStep.{RStep}
-use Rattle.tta_rcode.specs.Meaning.{Kept, steps_of}
+use Rattle.tta_lower.specs.Cited.{iterate, Units, Step, Load, Take, Store, When, Program, IsProgram, Running, Waiting, step_at, next, RStep, Kept, steps_of}
+use Rattle.tta_program.specs.declared.step.Step.TheVariants.{Copy, Apply, Put}
+use Rattle.tta_program.specs.Sequential.{Frame}
 use Rattle.tta_lower.specs.Liveness.{After, Reached, Homes, IsHomes, PlainAt, is_plain, leads}
 use Rattle.tta_lower.specs.Layout.{vars_of, steps_for, code_from}
 use Rattle.tta_lower.specs.Relation.{running, going, HeldBefore, HeldAfter, Untouched}

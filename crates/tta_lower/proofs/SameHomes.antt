@@ -4,21 +4,12 @@ use Rattle.std.specs.Prelude.{◌==◌, not, nat_lt, if◌then◌else◌}
 use Rattle.std.specs.Option.{option_map_or}
 use Rattle.std.proofs.lemmas.Bool.{eqb-true, and_parts, lt-ltb}
 use Rattle.std.proofs.lemmas.Bool.Decides.{nat_tests}
-use Rattle.tta_program.specs.declared.operand.Src.{Src}
+use Rattle.tta_lower.specs.Cited.{Src, Proc, Program, IsProgram, step_at, live_before, live_after, Home, Slot, home_of, AreAllotted, KeepsLaw, IsLiveAtEntry, IsRead, IsAssigned, IsLiveBefore, IsLiveAfter, IsKept, keeps}
 use Rattle.tta_program.specs.declared.step.Step.TheVariants.{Invoke}
-use Rattle.tta_program.specs.declared.program.Proc.{Proc}
-use Rattle.tta_program.specs.Program.{Program}
-use Rattle.tta_program.specs.Rules.{IsProgram}
-use Rattle.tta_program.specs.Sequential.{step_at}
 use Rattle.tta_flow.specs.Steps as steps
-use Rattle.tta_flow.specs.Live.{live_before, live_after}
-use Rattle.tta_alloc.specs.declared.home.Home.{Home}
-use Rattle.tta_alloc.specs.declared.home.Home.TheVariants.{Reg, Slot}
+use Rattle.tta_alloc.specs.declared.home.Home.TheVariants.{Reg}
 use Rattle.tta_alloc.specs.declared.homes.Homes.{Homes}
-use Rattle.tta_alloc.specs.Homes.{home_of}
-use Rattle.tta_alloc.specs.Allotted.{AreAllotted}
-use Rattle.tta_alloc.specs.Law.{KeepsLaw}
-use Rattle.tta_alloc.specs.Intervals.{Counts, IsLiveAtEntry, IsRead, IsAssigned, IsLiveBefore, IsLiveAfter, IsKept, keeps}
+use Rattle.tta_alloc.specs.Intervals.{Counts}
 use Rattle.tta_lower.specs.Layout.{vars_of}
 use Rattle.tta_lower.specs.Liveness.{Reached, LiveAfter, Touches, ByRead, ByAssigned, ByBefore, ByAfter, IsHomes}
 use Rattle.tta_lower.proofs.Bridge.{is-flow, blocks-in-order}

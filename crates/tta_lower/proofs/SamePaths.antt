@@ -4,13 +4,9 @@ use Rattle.std.specs.Prelude.{◌==◌}
 use Rattle.std.specs.Option.{option_map_or}
 use Rattle.std.proofs.lemmas.Bool.{eqb-true}
 use Rattle.std.proofs.lemmas.Bool.Decides.{nat_tests}
-use Rattle.tta_program.specs.declared.step.Step.{Step}
-use Rattle.tta_program.specs.declared.program.Proc.{Proc}
-use Rattle.tta_program.specs.Program.{Program}
-use Rattle.tta_program.specs.Sequential.{step_at}
+use Rattle.tta_lower.specs.Cited.{Step, Proc, Program, step_at, Begin, Onward, ReadHere, ReadLater}
 use Rattle.tta_flow.specs.Steps as steps
 use Rattle.tta_flow.specs.Paths as flow
-use Rattle.tta_flow.specs.Paths.{Begin, Onward, ReadHere, ReadLater}
 use Rattle.tta_lower.specs.Liveness as lower
 use Rattle.tta_lower.specs.Liveness.{Reads, Leads, After, First, Then}
 use Rattle.tta_lower.proofs.SameSteps.{same_reads, same_assigned, same_leads}

@@ -2,19 +2,14 @@
 use Rattle.std.proofs.Common.{◌≡◌, ◌≢◌, ◌<◌, ◌≤◌, ◌+◌, ◌&&◌, ◌++◌, [], ℕ, zero, suc, Bool, List, Option, Some, None, true, false, slice_index, nat_lt, refl, sym, ap, ◌∙◌, subst, arith, inl, inr, append_assoc}
 use Rattle.std.specs.Prelude.{if◌then◌else◌, is_none}
 use Rattle.std.proofs.lemmas.Bool.{and_parts, cases_eq, ltb-true}
-use Rattle.tta_ops.specs.Units.{Units}
-use Rattle.tta_program.specs.Program.{Program}
-use Rattle.tta_program.specs.Sequential.{Running}
+use Rattle.tta_lower.specs.Cited.{Units, Program, Running, RStep, Kept, Plain, put_reg, put_slot, found, plain, word, steps_of, Place}
 use Rattle.tta_rcode.specs.declared.code.Place.TheVariants as places
-use Rattle.tta_rcode.specs.declared.code.RStep.{RStep}
 use Rattle.tta_rcode.specs.Meaning as code
-use Rattle.tta_rcode.specs.Meaning.{Kept, Plain, put_reg, put_slot, found, plain, word, steps_of}
 use Rattle.tta_lower.specs.Liveness.{LiveBefore, Homes, IsHomes}
 use Rattle.tta_lower.specs.Layout.{vars_of, params_of, var_slot, place, place_by, first_value, sets, sets_from}
 use Rattle.tta_lower.specs.Relation.{going, Untouched}
 use Rattle.tta_lower.proofs.Lookups.{word-same, word-other, found-other}
 use Rattle.tta_lower.proofs.Passing.{copy-place}
-use Rattle.tta_rcode.specs.declared.code.Place.{Place}
 use Rattle.std.proofs.lemmas.Bool.{cases_lt, lt-ltb, le-ltb, and_from, false≢true}
 
 module _ (u : Units) (p : Program) (home : Homes) (live : ℕ → ℕ → Bool) (homes : IsHomes p home) (owner : ℕ)

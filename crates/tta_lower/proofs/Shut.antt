@@ -7,16 +7,9 @@ use Rattle.std.proofs.lemmas.Bool.{eq-eqb, ne_eqb, and_from, lt-ltb, le-leb, or_
 use Rattle.std.proofs.lemmas.List.{length-map}
 use Rattle.std.proofs.lemmas.Option.{slice_get_within}
 use Rattle.tta_list.proofs.Lists.{all_one}
-use Rattle.tta_ops.specs.Units.{Units}
-use Rattle.tta_program.specs.declared.operand.Src.{Src}
-use Rattle.tta_program.specs.declared.step.Step.{Step}
-use Rattle.tta_program.specs.declared.step.Step.TheVariants.{Copy, Apply, Load, Take, Store, Put, If, Goto, When, Invoke, Return, Halt, End}
-use Rattle.tta_program.specs.declared.program.Proc.{Proc}
-use Rattle.tta_program.specs.Program.{Program, step_count}
-use Rattle.tta_program.specs.Rules.{IsProgram, IsProc}
-use Rattle.tta_program.specs.Sequential.{step_at}
+use Rattle.tta_lower.specs.Cited.{Units, Src, Step, Load, Take, Store, When, End, Proc, Program, step_count, IsProgram, IsProc, step_at, RBlock, frame_need, block_passes, is_place, leads_within, is_closed_block, IsClosed, rrun}
+use Rattle.tta_program.specs.declared.step.Step.TheVariants.{Copy, Apply, Put, If, Goto, Invoke, Return, Halt}
 use Rattle.tta_rcode.specs.declared.code.Place.TheVariants.{Frame}
-use Rattle.tta_rcode.specs.declared.code.RBlock.{RBlock}
 use Rattle.tta_rcode.specs.declared.code.Exit.TheVariants as exit
 use Rattle.tta_rcode.specs.declared.code.RStep.TheVariants as rstep
 use Rattle.tta_rcode.specs.declared.code.RSrc.TheVariants as rsrc
@@ -24,14 +17,11 @@ use Rattle.tta_lower.specs.Liveness.{Known, Block, Has, IsFlow, leads}
 use Rattle.tta_lower.specs.Layout
 use Rattle.tta_lower.specs.Layout.{vars_of, params_of, base, var_slot, value_slot, back_slot, place, place_by, exit_for, keeps_ra, sets_from, steps_for, code_from}
 use Rattle.tta_lower.specs.Lower.{numbers, Part, Entry, Steps, Returned, parts, number_of, entry_number, homes_of, block_of, lowered, Answers}
-use Rattle.tta_program.specs.Sizes.{frame_need}
-use Rattle.tta_rcode.specs.Closed.{block_passes, is_place, leads_within, is_closed_block, IsClosed}
 use Rattle.tta_lower.proofs.Callers.{called, vars-are}
 use Rattle.tta_lower.proofs.Frames.{other-own}
 use Rattle.tta_lower.proofs.Lists.{filter-in, numbers-below}
 use Rattle.tta_lower.proofs.Placed.{span-in, span-there, entry-block, span-below, steps_of_proc}
 use Rattle.tta_lower.specs.Lower.{live_past}
-use Rattle.tta_rcode.specs.Meaning.{rrun}
 use Rattle.tta_lower.proofs.Exits.{code_from-more}
 use Rattle.tta_lower.proofs.Weighing.{few-blocks}
 use Rattle.tta_lower.proofs.Shutting.{IsPartOf, parts-are, part-passes, all-mapped, all-in, frame-within, main-in}

@@ -6,22 +6,13 @@ use Rattle.std.proofs.lemmas.Bool.{eq-eqb, and_from, and_parts, ltb-true}
 use Rattle.std.proofs.lemmas.List.Sums.{sum_by-cons}
 use Rattle.std.proofs.lemmas.List.Folds.{list_all-append}
 use Rattle.std.proofs.lemmas.Option.{slice_get_within}
-use Rattle.tta_program.specs.declared.operand.Src.{Src}
-use Rattle.tta_program.specs.declared.step.Step.{Step}
+use Rattle.tta_lower.specs.Cited.{Src, Step, Proc, Program, IsProgram, is_src, step_at, Place, RBlock, frame_need, step_passes, block_passes}
 use Rattle.tta_program.specs.declared.step.Step.TheVariants.{Invoke}
-use Rattle.tta_program.specs.declared.program.Proc.{Proc}
-use Rattle.tta_program.specs.Program.{Program}
 use Rattle.tta_program.specs.Rules
-use Rattle.tta_program.specs.Rules.{IsProgram, is_src}
-use Rattle.tta_program.specs.Sequential.{step_at}
-use Rattle.tta_rcode.specs.declared.code.Place.{Place}
 use Rattle.tta_rcode.specs.declared.code.Place.TheVariants.{Frame}
-use Rattle.tta_rcode.specs.declared.code.RBlock.{RBlock}
 use Rattle.tta_lower.specs.Liveness.{Known, Block, Has, IsFlow}
 use Rattle.tta_lower.specs.Layout.{vars_of, base, slots_before, var_slot, value_slot, back_slot, size, place, keeps_ra, sets_from, code_from}
 use Rattle.tta_lower.specs.Lower.{numbers, code_order, spans_of, Part, Entry, Steps, Returned, return_after, span_parts, has_entry, entry_parts, proc_parts, parts, number_of, entry_number, block_of, lowered, Answers}
-use Rattle.tta_program.specs.Sizes.{frame_need}
-use Rattle.tta_rcode.specs.Closed.{step_passes, block_passes}
 use Rattle.tta_lower.proofs.Steps.{step_of}
 use Rattle.tta_lower.proofs.Callers.{called, vars-are}
 use Rattle.tta_lower.proofs.Slots.{frames-rise}

@@ -1,8 +1,7 @@
 -- Slots of different procedures differ.
 use Rattle.std.proofs.Common.{◌≡◌, ◌<◌, ◌≤◌, ◌+◌, ◌∷◌, [], ℕ, List, Some, zero, suc, slice_get, refl, ap, arith, inl, inr}
 use Rattle.std.proofs.lemmas.Bool.{cases_order}
-use Rattle.tta_program.specs.declared.program.Proc.{Proc}
-use Rattle.tta_program.specs.Program.{Program}
+use Rattle.tta_lower.specs.Cited.{Proc, Program}
 use Rattle.tta_lower.specs.Layout.{vars_of, own, slots_before, base, size, InFrame}
 
 -- the slots of a procedure end before those of a later one

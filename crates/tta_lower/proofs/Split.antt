@@ -5,8 +5,7 @@ use Rattle.std.specs.List.{flat_map}
 use Rattle.std.proofs.lemmas.Bool.{eq-eqb, ne_eqb, cases_eq}
 use Rattle.std.proofs.lemmas.List.{drop_more, drop_all, length-set}
 use Rattle.std.proofs.lemmas.Option.{slice_get-get_or}
-use Rattle.tta_program.specs.declared.program.Proc.{Proc}
-use Rattle.tta_program.specs.Program.{Program}
+use Rattle.tta_lower.specs.Cited.{Proc, Program}
 use Rattle.tta_flow.specs.declared.flow.Block.{Block}
 use Rattle.tta_lower.specs.Liveness.{Has}
 use Rattle.tta_lower.specs.Lower.{Part, numbers, spans_of, entry_parts, span_parts, proc_parts, parts}

@@ -3,26 +3,11 @@ use Rattle.std.proofs.Common.{◌≡◌, ◌<◌, ◌≤◌, ℕ, Bool, true, Li
 use Rattle.std.specs.Prelude.{◌↔◌}
 use Rattle.std.specs.Option.{option_map_or}
 use Rattle.std.proofs.lemmas.List.{length-map}
-use Rattle.tta_list.specs.Legs.{AllPairs}
-use Rattle.tta_ops.specs.Units.{Units}
-use Rattle.tta_program.specs.declared.step.Step.{Step}
+use Rattle.tta_lower.specs.Cited.{AllPairs, Units, Step, Proc, DataLine, Program, IsProgram, step_at, frame_need, only_constants, puts, alone, Rir, one_block, Live, IsLive, count_of, AreAllotted}
 use Rattle.tta_program.specs.declared.step.Step.TheVariants.{Invoke}
-use Rattle.tta_program.specs.declared.program.Proc.{Proc}
-use Rattle.tta_program.specs.declared.program.DataLine.{DataLine}
-use Rattle.tta_program.specs.Program.{Program}
-use Rattle.tta_program.specs.Rules.{IsProgram}
-use Rattle.tta_program.specs.Sequential.{step_at}
-use Rattle.tta_program.specs.Sizes.{frame_need}
-use Rattle.tta_program.specs.Direct.{only_constants, puts, alone}
-use Rattle.tta_rcode.specs.declared.code.Rir.{Rir}
-use Rattle.tta_rcode.specs.Direct.{one_block}
 use Rattle.tta_flow.specs.declared.flow.Block.{Block}
-use Rattle.tta_flow.specs.declared.live.Live.{Live}
 use Rattle.tta_flow.specs.Blocks as flows
-use Rattle.tta_flow.specs.Live.{IsLive}
 use Rattle.tta_alloc.specs.declared.homes.Homes.{Homes as HomesOf}
-use Rattle.tta_alloc.specs.Homes.{count_of}
-use Rattle.tta_alloc.specs.Allotted.{AreAllotted}
 use Rattle.tta_lower.specs.FlowFacts.{AreBlocks}
 use Rattle.tta_lower.specs.Liveness.{Known, Has, IsFlow, LiveBefore, LiveAfter}
 use Rattle.tta_lower.specs.Layout.{vars_of}

@@ -3,7 +3,7 @@ use Rattle.std.proofs.Common.{◌≡◌, ◌<◌, ◌≤◌, ◌+◌, ◌==◌, 
 use Rattle.std.specs.Option.{option_map_or}
 use Rattle.std.specs.List.{list_any}
 use Rattle.std.proofs.lemmas.Bool.{eq-eqb, eqb-true, and_parts, and_from, or_cases}
-use Rattle.tta_program.specs.Program.{Program}
+use Rattle.tta_lower.specs.Cited.{Program}
 use Rattle.tta_lower.specs.Liveness.{Known}
 use Rattle.tta_lower.specs.Layout.{vars_of}
 use Rattle.tta_lower.specs.Lower.{numbers, is_home_of, homes_of}

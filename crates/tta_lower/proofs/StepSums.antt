@@ -4,10 +4,7 @@ use Rattle.std.specs.Prelude.{if◌then◌else◌}
 use Rattle.std.specs.Option.{option_map_or}
 use Rattle.std.specs.List.{sum_by}
 use Rattle.std.proofs.lemmas.List.Sums.{sum_by-append}
-use Rattle.tta_program.specs.declared.step.Step.{Step}
-use Rattle.tta_program.specs.Program.{Program}
-use Rattle.tta_program.specs.Sequential.{step_at}
-use Rattle.tta_rcode.specs.declared.code.RStep.{RStep}
+use Rattle.tta_lower.specs.Cited.{Step, Program, step_at, RStep}
 use Rattle.tta_lower.specs.Liveness.{Block, Homes}
 use Rattle.tta_lower.specs.Layout.{steps_for, code_from, sets, sets_from}
 use Rattle.tta_lower.specs.Counts.{over_steps, over_live}

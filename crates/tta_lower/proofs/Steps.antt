@@ -1,10 +1,6 @@
 -- A step of a program keeps the program's rules.
 use Rattle.std.proofs.Common.{◌≡◌, ◌≢◌, ℕ, Option, Some, None, true, refl, sym, ap, ◌∙◌, arith, slice_get}
-use Rattle.tta_program.specs.declared.step.Step.{Step}
-use Rattle.tta_program.specs.declared.program.Proc.{Proc}
-use Rattle.tta_program.specs.Program.{Program}
-use Rattle.tta_program.specs.Rules.{IsProgram, is_step, IsProc}
-use Rattle.tta_program.specs.Sequential.{step_at}
+use Rattle.tta_lower.specs.Cited.{Step, Proc, Program, IsProgram, is_step, IsProc, step_at}
 use Rattle.tta_lower.specs.Liveness.{Reached, Touches, Homes, IsHomes}
 use Rattle.tta_lower.specs.Layout.{var_slot, place, place_by}
 use Rattle.std.specs.Option.{option_map_or}

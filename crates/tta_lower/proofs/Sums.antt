@@ -6,8 +6,7 @@ use Rattle.std.proofs.lemmas.Bool.{eq-eqb}
 use Rattle.std.proofs.lemmas.List.Sums.{sum_by-cons, sum_by-append}
 use Rattle.std.proofs.lemmas.List.Filters.{sum_by-filter_both}
 use Rattle.tta_list.proofs.Lists.{slice_get-back}
-use Rattle.tta_program.specs.declared.program.Proc.{Proc}
-use Rattle.tta_program.specs.Program.{Program}
+use Rattle.tta_lower.specs.Cited.{Proc, Program}
 use Rattle.tta_lower.specs.Lower.{numbers, code_order}
 use Rattle.tta_lower.proofs.Lists.{In, in-filter, filter-in, in-numbers, numbers-below}
 

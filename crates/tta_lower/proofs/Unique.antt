@@ -4,10 +4,8 @@ use Rattle.std.specs.Prelude.{if◌then◌else◌}
 use Rattle.std.specs.List.{flat_map}
 use Rattle.std.proofs.lemmas.Bool.{eq-eqb, ne_eqb, eqb-true, cases_lt, lt-ltb, le-ltb, false≢true, not-true}
 use Rattle.tta_list.proofs.Lists.{slice_get-back, slice_get-front}
-use Rattle.tta_program.specs.declared.step.Step.{Step}
+use Rattle.tta_lower.specs.Cited.{Step, Program, step_at}
 use Rattle.tta_program.specs.declared.step.Step.TheVariants.{Invoke}
-use Rattle.tta_program.specs.Program.{Program}
-use Rattle.tta_program.specs.Sequential.{step_at}
 use Rattle.tta_lower.specs.Liveness.{Block}
 use Rattle.tta_lower.specs.Lower.{numbers, code_order, spans_of, Entry, Steps, return_after, span_parts, entry_parts, has_entry, proc_parts, parts, procs_before, spans_before, entry_number, number_of, EndsBefore, InOrder}
 use Rattle.tta_lower.specs.Members.{In, Rises}

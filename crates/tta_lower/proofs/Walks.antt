@@ -1,13 +1,9 @@
 -- A run of the program and a walk of the register code that come to states that stand together, or end alike.
 use Rattle.std.proofs.Common.{◌≡◌, ◌<◌, ◌≤◌, ◌+◌, ◌∷◌, ℕ, List, Option, false, drop, sym, ap, ◌∙◌, subst, arith}
-use Rattle.tta_list.specs.Iterate.{iterate}
-use Rattle.tta_ops.specs.Units.{Units}
-use Rattle.tta_program.specs.Program.{Program, step_count}
+use Rattle.tta_lower.specs.Cited.{iterate, Units, Program, step_count, Outcome, Running, next, RBlock, Rir, Kept, walk, is_running}
 use Rattle.tta_program.specs.Sequential as program
-use Rattle.tta_program.specs.Sequential.{Frame, Outcome, Running, next}
-use Rattle.tta_rcode.specs.declared.code.RBlock.{RBlock}
-use Rattle.tta_rcode.specs.declared.code.Rir.{Rir}
-use Rattle.tta_rcode.specs.Meaning.{State, Kept, walk, is_running}
+use Rattle.tta_program.specs.Sequential.{Frame}
+use Rattle.tta_rcode.specs.Meaning.{State}
 use Rattle.tta_lower.specs.Liveness.{Known}
 use Rattle.tta_lower.specs.Shape.{Counts}
 use Rattle.tta_lower.specs.Relation.{running, going, AtBlock, Stands}

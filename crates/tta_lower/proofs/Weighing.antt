@@ -6,25 +6,16 @@ use Rattle.std.specs.List.{flat_map, sum_by}
 use Rattle.std.proofs.lemmas.Bool.{eqb-true, false≢true}
 use Rattle.std.proofs.lemmas.List.Sums.{sum_by-cons, sum_by-append}
 use Rattle.tta_list.proofs.Lists.{slice_get-back, some_within, sum_by-map as sum-mapped, length_ones as length-sum}
-use Rattle.tta_program.specs.declared.operand.Src.{Src}
-use Rattle.tta_program.specs.declared.step.Step.{Step}
-use Rattle.tta_program.specs.declared.step.Step.TheVariants.{Copy, Apply, Load, Take, Store, Put, If, Goto, When, Invoke, Return, Halt, End}
-use Rattle.tta_program.specs.declared.program.Proc.{Proc}
-use Rattle.tta_program.specs.Program.{Program, step_count}
-use Rattle.tta_program.specs.Rules.{IsProgram}
-use Rattle.tta_program.specs.Sequential.{step_at}
-use Rattle.tta_rcode.specs.declared.code.RSrc.{RSrc}
+use Rattle.tta_lower.specs.Cited.{Src, Step, Load, Take, Store, When, End, Proc, Program, step_count, IsProgram, step_at, RSrc, RBlock, weight_step, weight_exit, weight_block, weight, args_in, arg_count, var_count}
+use Rattle.tta_program.specs.declared.step.Step.TheVariants.{Copy, Apply, Put, If, Goto, Invoke, Return, Halt}
 use Rattle.tta_rcode.specs.declared.code.RSrc.TheVariants as rsrc
 use Rattle.tta_rcode.specs.declared.code.RStep.TheVariants as rstep
 use Rattle.tta_rcode.specs.declared.code.Place.TheVariants.{Frame}
-use Rattle.tta_rcode.specs.declared.code.RBlock.{RBlock}
 use Rattle.tta_lower.specs.Liveness.{Known, Block, Has, Homes, IsFlow}
 use Rattle.tta_lower.specs.Layout
 use Rattle.tta_lower.specs.Layout.{vars_of, params_of, place, source, passes, gives, steps_for, exit_for, keeps_ra, first_value, sets, sets_from}
 use Rattle.tta_lower.specs.Lower.{code_order, spans_of, Part, Entry, Steps, return_after, span_parts, has_entry, entry_parts, proc_parts, parts, number_of, entry_number, block_of, lowered, InOrder, Answers}
 use Rattle.tta_lower.specs.Counts.{over_steps, over_live}
-use Rattle.tta_rcode.specs.Counts.{weight_step, weight_exit, weight_block, weight}
-use Rattle.tta_program.specs.Sizes.{args_in, arg_count, var_count}
 use Rattle.tta_lower.proofs.Lists.{In, in-has, filter-in, begins-behind}
 use Rattle.tta_lower.proofs.Sums.{sum-flat_map, code-order-sum}
 use Rattle.tta_lower.proofs.Placed.{main-below, span-rises, span-below, steps_of_proc}

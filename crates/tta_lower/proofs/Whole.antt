@@ -1,16 +1,10 @@
 -- Whole runs.
 use Rattle.std.proofs.Common.{◌≡◌, ◌≤◌, ◌+◌, ◌*◌, ◌∷◌, [], ℕ, zero, suc, List, Option, None, true, false, refl, sym, ap, ◌∙◌, subst, arith, inl, inr}
 use Rattle.std.proofs.lemmas.Bool.{cases_lt, false≢true}
-use Rattle.tta_list.specs.Prefix.{IsPrefixOf}
-use Rattle.tta_list.specs.Iterate.{iterate}
-use Rattle.tta_ops.specs.Units.{Units}
-use Rattle.tta_program.specs.Program.{Program, step_count}
-use Rattle.tta_program.specs.Rules.{IsProgram}
+use Rattle.tta_lower.specs.Cited.{IsPrefixOf, iterate, Units, Program, step_count, IsProgram, Outcome, Running, enter, next, seq, Rir, Kept, is_running, leg, rrun}
 use Rattle.tta_program.specs.Sequential as program
-use Rattle.tta_program.specs.Sequential.{Frame, Outcome, Running, enter, next, seq}
+use Rattle.tta_program.specs.Sequential.{Frame}
 use Rattle.tta_program.proofs.Growing.{later_output}
-use Rattle.tta_rcode.specs.declared.code.Rir.{Rir}
-use Rattle.tta_rcode.specs.Meaning.{Kept, is_running, leg, rrun}
 use Rattle.tta_lower.specs.Liveness.{Known, IsFlow, IsHomes}
 use Rattle.tta_lower.specs.Shape.{Counts, IsLowered}
 use Rattle.tta_lower.specs.Relation.{running, going, Stands}

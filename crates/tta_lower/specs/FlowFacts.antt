@@ -1,11 +1,7 @@
 -- What the crates below state of blocks and homes, in their own words over the steps of one procedure.
 use Rattle.std.specs.Prelude.{◌≡◌, ◌≢◌, ℕ, ◌+◌, ◌<◌, ◌≤◌, ◌==◌, ◌⊎◌, Bool, true, false, List, length, Option, Some, None, slice_get}
-use Rattle.tta_program.specs.declared.operand.Src.{Src}
-use Rattle.tta_program.specs.declared.step.Step.{Step}
+use Rattle.tta_lower.specs.Cited.{Src, Step, Proc, Program, step_at}
 use Rattle.tta_program.specs.declared.step.Step.TheVariants.{If, Goto, Invoke}
-use Rattle.tta_program.specs.declared.program.Proc.{Proc}
-use Rattle.tta_program.specs.Program.{Program}
-use Rattle.tta_program.specs.Sequential.{step_at}
 use Rattle.tta_lower.specs.Liveness.{Block, Has, Homes, Reached, LiveBefore, LiveAfter, Touches, is_plain}
 
 -- ---- blocks

@@ -1,12 +1,8 @@
 -- When register code has the meaning of a program.
 use Rattle.std.specs.Prelude.{◌≡◌, ℕ, ◌+◌, ◌*◌, true, false, List}
-use Rattle.tta_list.specs.Prefix.{IsPrefixOf}
-use Rattle.tta_ops.specs.Units.{Units}
-use Rattle.tta_program.specs.Program.{Program, step_count}
+use Rattle.tta_lower.specs.Cited.{IsPrefixOf, Units, Program, step_count, seq, Rir, is_running, rrun}
 use Rattle.tta_program.specs.Sequential as program
-use Rattle.tta_program.specs.Sequential.{seq}
-use Rattle.tta_rcode.specs.declared.code.Rir.{Rir}
-use Rattle.tta_rcode.specs.Meaning.{State, is_running, rrun}
+use Rattle.tta_rcode.specs.Meaning.{State}
 
 -- two runs have the same outcome, data, output and rest of the input
 pub record EndAlike (s : program.State) (t : State) : Type 0 where

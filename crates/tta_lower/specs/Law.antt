@@ -1,15 +1,9 @@
 -- What holds of the register code of every program.
 use Rattle.std.specs.Prelude.{ℕ, ◌+◌, ◌*◌, ◌≤◌, Bool, length}
-use Rattle.tta_ops.specs.Units.{Units}
-use Rattle.tta_program.specs.Program.{Program, step_count}
-use Rattle.tta_program.specs.Rules.{IsProgram}
+use Rattle.tta_lower.specs.Cited.{Units, Program, step_count, IsProgram, names, Need, asks, assigns_block, weight, arg_count, var_count, IsClosed, frame_need}
 use Rattle.tta_lower.specs.Liveness.{Known, IsFlow, IsHomes}
 use Rattle.tta_lower.specs.Lower.{Part, parts, block_of, lowered, Answers}
-use Rattle.tta_rcode.specs.Counts.{names, Need, asks, assigns_block, weight}
 use Rattle.tta_lower.specs.Counts.{traffic, asks_part, assigns_part}
-use Rattle.tta_program.specs.Sizes.{arg_count, var_count}
-use Rattle.tta_rcode.specs.Closed.{IsClosed}
-use Rattle.tta_program.specs.Sizes.{frame_need}
 use Rattle.tta_lower.specs.Keeps.{KeepsMeaning}
 use Rattle.tta_lower.specs.Members.{In}
 

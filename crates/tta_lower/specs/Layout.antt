@@ -1,20 +1,12 @@
 -- Where the frame space keeps what, and what the blocks of a program become.
 use Rattle.std.specs.Prelude.{ℕ, zero, suc, ◌+◌, ◌<◌, ◌≤◌, ◌==◌, nat_lt, Bool, ◌&&◌, if◌then◌else◌, List, [], ◌∷◌, ◌++◌, Option, Some, None, is_none, slice_get}
 use Rattle.std.specs.Option.{option_map_or}
-use Rattle.tta_program.specs.declared.operand.Src.{Src}
-use Rattle.tta_program.specs.declared.operand.Src.TheVariants.{Var, Word}
-use Rattle.tta_program.specs.declared.step.Step.{Step}
-use Rattle.tta_program.specs.declared.step.Step.TheVariants.{Copy, Apply, Load, Take, Store, Put, If, Goto, When, Invoke, Return, Halt, End}
-use Rattle.tta_program.specs.declared.program.Proc.{Proc}
-use Rattle.tta_program.specs.Program.{Program}
-use Rattle.tta_program.specs.Sequential.{step_at}
-use Rattle.tta_rcode.specs.declared.code.Place.{Place}
+use Rattle.tta_lower.specs.Cited.{Src, Var, Step, Load, Take, Store, When, End, Proc, Program, step_at, Place, RSrc, RStep, Exit}
+use Rattle.tta_program.specs.declared.operand.Src.TheVariants.{Word}
+use Rattle.tta_program.specs.declared.step.Step.TheVariants.{Copy, Apply, Put, If, Goto, Invoke, Return, Halt}
 use Rattle.tta_rcode.specs.declared.code.Place.TheVariants.{Reg, Frame}
-use Rattle.tta_rcode.specs.declared.code.RSrc.{RSrc}
 use Rattle.tta_rcode.specs.declared.code.RSrc.TheVariants as rsrc
-use Rattle.tta_rcode.specs.declared.code.RStep.{RStep}
 use Rattle.tta_rcode.specs.declared.code.RStep.TheVariants as rstep
-use Rattle.tta_rcode.specs.declared.code.Exit.{Exit}
 use Rattle.tta_rcode.specs.declared.code.Exit.TheVariants as exit
 use Rattle.tta_lower.specs.Liveness.{Homes}
 

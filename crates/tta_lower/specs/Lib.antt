@@ -1,3 +1,4 @@
+pub mod Cited
 pub mod Liveness
 pub mod Layout
 pub mod Shape

@@ -1,7 +1,6 @@
 -- What lowering knows of a program, as its functions are handed it.
 use Rattle.std.specs.Prelude.{ℕ, Bool, slice_index}
-use Rattle.tta_rcode.specs.declared.code.RBlock.{RBlock}
-use Rattle.tta_alloc.specs.Homes.{count_of}
+use Rattle.tta_lower.specs.Cited.{RBlock, count_of}
 use Rattle.tta_lower.specs.declared.plan.Plan.{Plan}
 use Rattle.tta_lower.specs.declared.numbers.Numbers.{Numbers}
 use Rattle.tta_lower.specs.Liveness.{Homes}

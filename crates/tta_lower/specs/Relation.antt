@@ -1,13 +1,10 @@
 -- How a state of a program's run and a state of its register code's run stand to each other where a block begins.
 use Rattle.std.specs.Prelude.{◌≡◌, ◌≢◌, ℕ, ◌+◌, ◌<◌, ◌≤◌, true, List, [], ◌∷◌, Option, Some, ⊤, length, slice_get, slice_index}
-use Rattle.tta_program.specs.declared.operand.Src.{Src}
+use Rattle.tta_lower.specs.Cited.{Src, Proc, Program, Outcome, step_at, Rir, Kept, found, plain, word}
 use Rattle.tta_program.specs.declared.step.Step.TheVariants.{Invoke}
-use Rattle.tta_program.specs.declared.program.Proc.{Proc}
-use Rattle.tta_program.specs.Program.{Program}
 use Rattle.tta_program.specs.Sequential as program
-use Rattle.tta_program.specs.Sequential.{Frame, Outcome, step_at}
-use Rattle.tta_rcode.specs.declared.code.Rir.{Rir}
-use Rattle.tta_rcode.specs.Meaning.{State, Kept, Return, found, plain, word}
+use Rattle.tta_program.specs.Sequential.{Frame}
+use Rattle.tta_rcode.specs.Meaning.{State, Return}
 use Rattle.tta_lower.specs.Liveness.{Known, LiveBefore, LiveAfter, Block, Has, Homes}
 use Rattle.tta_lower.specs.Layout.{vars_of, params_of, back_slot, value_slot, var_slot, InFrame, place}
 use Rattle.tta_lower.specs.Shape.{Counts, EntryFor}

@@ -1,18 +1,12 @@
 -- What is known of register code that a program became.
 use Rattle.std.specs.Prelude.{◌≡◌, ℕ, ◌+◌, ◌-◌, ◌≤◌, ◌==◌, Bool, true, false, List, [], ◌∷◌, ◌++◌, Some, None, slice_get}
 use Rattle.std.specs.List.{list_any}
-use Rattle.tta_program.specs.declared.operand.Src.{Src}
-use Rattle.tta_program.specs.declared.step.Step.{Step}
+use Rattle.tta_lower.specs.Cited.{Src, Step, Proc, Program, step_count, step_at, RBlock, Rir}
 use Rattle.tta_program.specs.declared.step.Step.TheVariants.{If, Invoke}
-use Rattle.tta_program.specs.declared.program.Proc.{Proc}
-use Rattle.tta_program.specs.Program.{Program, step_count}
-use Rattle.tta_program.specs.Sequential.{step_at}
 use Rattle.tta_rcode.specs.declared.code.Place.TheVariants.{Frame}
 use Rattle.tta_rcode.specs.declared.code.RSrc.TheVariants as rsrc
 use Rattle.tta_rcode.specs.declared.code.RStep.TheVariants as rstep
 use Rattle.tta_rcode.specs.declared.code.Exit.TheVariants as exit
-use Rattle.tta_rcode.specs.declared.code.RBlock.{RBlock}
-use Rattle.tta_rcode.specs.declared.code.Rir.{Rir}
 use Rattle.tta_lower.specs.Liveness.{Known, LiveBefore, LiveAfter, Block, Has, is_plain}
 use Rattle.tta_lower.specs.Layout.{place, code_from, exit_for, keeps_ra, sets_from, value_slot, vars_of}
 

@@ -2,8 +2,7 @@
 use Rattle.std.specs.Prelude.{[], ◌∷◌, Some}
 use Rattle.tta_program.specs.declared.operand.Src.TheVariants as src
 use Rattle.tta_program.specs.declared.step.Step.TheVariants as step
-use Rattle.tta_program.specs.declared.program.Proc.{Proc}
-use Rattle.tta_program.specs.Program.{Program}
+use Rattle.tta_lower.specs.Cited.{Proc, Program}
 
 -- proc sq x / y = mul x x / return y / end
 abbrev pub square : Proc

@@ -1,24 +1,9 @@
 -- What lowering gives: the register code of a program, and why there is none.
 use Rattle.std.specs.Prelude.{◌≡◌, ◌↔◌, ◌≤◌, ◌<◌, ◌+◌, ◌*◌, ℕ, Bool, true, List, [], ◌∷◌, Option, Some, length, ⊤}
-use Rattle.tta_list.specs.Legs.{AllPairs}
-use Rattle.tta_ops.specs.Units.{Units}
-use Rattle.tta_program.specs.declared.step.Step.{Step}
+use Rattle.tta_lower.specs.Cited.{AllPairs, Units, Step, Proc, DataLine, Program, step_count, step_at, arg_count, var_count, frame_need, only_constants, puts, alone, RBlock, Rir, IsClosed, names, Need, asks, assigns_block, weight, one_block, Live, count_of}
 use Rattle.tta_program.specs.declared.step.Step.TheVariants.{Invoke}
-use Rattle.tta_program.specs.declared.program.Proc.{Proc}
-use Rattle.tta_program.specs.declared.program.DataLine.{DataLine}
-use Rattle.tta_program.specs.Program.{Program, step_count}
-use Rattle.tta_program.specs.Sequential.{step_at}
-use Rattle.tta_program.specs.Sizes.{arg_count, var_count, frame_need}
-use Rattle.tta_program.specs.Direct.{only_constants, puts, alone}
-use Rattle.tta_rcode.specs.declared.code.RBlock.{RBlock}
-use Rattle.tta_rcode.specs.declared.code.Rir.{Rir}
-use Rattle.tta_rcode.specs.Closed.{IsClosed}
-use Rattle.tta_rcode.specs.Counts.{names, Need, asks, assigns_block, weight}
-use Rattle.tta_rcode.specs.Direct.{one_block}
 use Rattle.tta_flow.specs.declared.flow.Block.{Block}
-use Rattle.tta_flow.specs.declared.live.Live.{Live}
 use Rattle.tta_alloc.specs.declared.homes.Homes.{Homes}
-use Rattle.tta_alloc.specs.Homes.{count_of}
 use Rattle.tta_lower.specs.declared.error.LowerError.{LowerError}
 use Rattle.tta_lower.specs.declared.error.LowerError.TheVariants.{FrameFull, NoMemory}
 use Rattle.tta_lower.specs.Liveness.{LiveBefore, LiveAfter, Homes as HomesType}

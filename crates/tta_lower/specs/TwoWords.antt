@@ -2,7 +2,7 @@
 use Rattle.std.specs.Prelude.{[], ◌∷◌}
 use Rattle.tta_program.specs.declared.operand.Src.TheVariants as src
 use Rattle.tta_program.specs.declared.step.Step.TheVariants as step
-use Rattle.tta_program.specs.declared.program.Proc.{Proc}
+use Rattle.tta_lower.specs.Cited.{Proc}
 
 -- proc main / a = 3 / out a / b = 4 / out b / end
 abbrev pub two_words : Proc

@@ -3,9 +3,7 @@ use Rattle.std.proofs.Common.{◌≡◌, ◌++◌, ◌∷◌, [], ℕ, List, Som
 use Rattle.std.specs.Prelude.{slice_get, slice_set}
 use Rattle.std.proofs.lemmas.List.{map-append}
 use Rattle.tta_list.proofs.Lists.{slice_get-longer}
-use Rattle.tta_reading.specs.Lines.{Line, Lexeme}
-use Rattle.tta_reading.specs.Names.{named_in}
-use Rattle.tta_ops.specs.Units.{Units}
+use Rattle.tta_machine.specs.Cited.{Line, Lexeme, named_in, Units}
 use Rattle.tta_machine.specs.declared.draft.Named.{Named}
 use Rattle.tta_machine.specs.declared.draft.Named.TheVariants as place
 use Rattle.tta_machine.specs.declared.draft.Draft.{Draft}

@@ -8,10 +8,8 @@ use Rattle.std.proofs.lemmas.Bool.{and_parts, not-true, eqb-true, eqb-false}
 use Rattle.std.proofs.lemmas.Nat.{or_disjoint, and_or_self, and_or_apart, pow_apart, pow_pos}
 use Rattle.std.proofs.lemmas.List.{map-append, map_more, drop_more, take-append-drop}
 use Rattle.tta_reading.specs.Steps.{◌>>?◌}
-use Rattle.tta_reading.specs.Lines.{texts}
-use Rattle.tta_reading.specs.declared.word.Word.{Word}
+use Rattle.tta_machine.specs.Cited.{texts, Word, are_different}
 use Rattle.tta_machine.specs.declared.draft.Draft.{Draft}
-use Rattle.tta_arch.specs.Rules.{are_different}
 use Rattle.tta_machine.specs.Draft.{bus_named}
 use Rattle.tta_machine.specs.Declarations.{bus_set, buses_named}
 use Rattle.tta_machine.specs.BusSets.{set_once}

@@ -4,7 +4,7 @@ use Rattle.std.specs.Prelude.{◌==◌, nat_lt, if◌then◌else◌}
 use Rattle.std.specs.List.{list_any, AllByRecursion}
 use Rattle.std.proofs.lemmas.Bool.{and_parts, or_parts, not-true, lt-ltb, le-ltb, eqb-false, cases_eq}
 use Rattle.std.proofs.lemmas.Bool.Decides.{nat_tests}
-use Rattle.tta_arch.specs.Rules.{are_different, IsBusSet}
+use Rattle.tta_machine.specs.Cited.{are_different, IsBusSet}
 use Rattle.tta_machine.specs.Declarations.{bus_set}
 
 -- the bits of the buses below n

@@ -9,16 +9,9 @@ use Rattle.tta_machine.specs.declared.refusal.Refusal.TheVariants.{Missing, TooN
 use Rattle.tta_machine.specs.declared.refusal.MachineError.{MachineError}
 use Rattle.tta_machine.specs.declared.refusal.MachineError.TheVariants as machine_error
 use Rattle.tta_machine.specs.declared.draft.Draft.{Draft}
-use Rattle.tta_arch.specs.declared.parts.Template.{Template}
-use Rattle.tta_arch.specs.declared.parts.Control.{Control}
-use Rattle.tta_arch.specs.declared.ends.Source.{Source}
+use Rattle.tta_machine.specs.Cited.{Template, Control, Source, Dest, Machine, has_bit, has_socket, source_socket, dest_socket, is_source_on, is_dest_on, width_for, numbers, all_sources, all_dests, sources_on, dests_on, guard_width, short_width, bus_width, taken_width, IsMachine, is_control}
 use Rattle.tta_arch.specs.declared.ends.Source.TheVariants as source
-use Rattle.tta_arch.specs.declared.ends.Dest.{Dest}
 use Rattle.tta_arch.specs.declared.ends.Dest.TheVariants as dest
-use Rattle.tta_arch.specs.Machine.{Machine}
-use Rattle.tta_arch.specs.Joins.{has_bit, has_socket, source_socket, dest_socket, is_source_on, is_dest_on}
-use Rattle.tta_arch.specs.Fields.{width_for, numbers, all_sources, all_dests, sources_on, dests_on, guard_width, short_width, bus_width, taken_width}
-use Rattle.tta_arch.specs.Rules.{IsMachine, is_control}
 use Rattle.tta_machine.specs.Draft.{machine_of, without_templates}
 use Rattle.tta_machine.specs.Text.{narrow_line, complete}
 use Rattle.tta_machine.specs.Kept.{IsDraft}

@@ -6,14 +6,10 @@ use Rattle.std.proofs.lemmas.Bool.{and_parts, and_from, or_from, not-true, not_f
 use Rattle.std.proofs.lemmas.List.Folds.{list_any-append}
 use Rattle.std.proofs.lemmas.Slice.Eq.{bytes_eq-Decides}
 use Rattle.tta_list.proofs.Lists.{all_append, all_weaker}
-use Rattle.tta_reading.specs.Names.{Declared, named_in}
+use Rattle.tta_machine.specs.Cited.{Declared, named_in, IsMachineName, are_different, names_of, Control, Template, Machine}
 use Rattle.tta_machine.specs.declared.draft.Named.{Named}
 use Rattle.tta_machine.specs.declared.draft.Named.TheVariants as place
-use Rattle.tta_arch.specs.Rules.{IsMachineName, are_different, names_of}
 use Rattle.tta_machine.specs.declared.draft.Draft.{Draft}
-use Rattle.tta_arch.specs.declared.parts.Control.{Control}
-use Rattle.tta_arch.specs.declared.parts.Template.{Template}
-use Rattle.tta_arch.specs.Machine.{Machine}
 use Rattle.tta_machine.specs.Draft.{machine_of}
 use Rattle.tta_machine.specs.Kept.{AreNamed, IsDraft}
 

@@ -1,9 +1,7 @@
 -- Lines and what their forms say, computed.
 use Rattle.std.proofs.Common.{◌≡◌, ℕ, List, [], ◌∷◌, true, false, get_or, refl}
 use Rattle.std.specs.Prelude.{Some, None, codes}
-use Rattle.tta_text.specs.Numbers.{number_of, digits_of, value_below, negative_of}
-use Rattle.tta_text.specs.Tokens.{tokens_of, tokens_from, piece_at, number_piece, negative_piece, mark_piece}
-use Rattle.tta_reading.specs.Lines.{Line, lines_of}
+use Rattle.tta_machine.specs.Cited.{number_of, digits_of, value_below, negative_of, tokens_of, tokens_from, piece_at, number_piece, negative_piece, mark_piece, Line, lines_of}
 use Rattle.tta_machine.specs.Forms.{bus_form, socket_form, file_form, imm_form, unit_form, op_form, guard_form, template_form, control_form, space_form}
 
 -- the words of a text's first line

@@ -6,19 +6,11 @@ use Rattle.std.specs.List.{list_all}
 use Rattle.std.proofs.lemmas.Bool.{and_parts, and_from, ltb-true, lt-ltb}
 use Rattle.tta_list.proofs.Lists.{slice_get-longer}
 use Rattle.tta_list.proofs.Tests.{and_map}
-use Rattle.tta_reading.specs.Names.{named_in}
+use Rattle.tta_machine.specs.Cited.{named_in, Socket, File, ImmUnit, Guard, Template, Control, is_same, IsMachineName, IsBusSet, is_socket, is_port_socket, is_from_to, is_file, is_imm, is_unit, is_unit_op, same_op, are_different, is_guard, is_template, is_control}
 use Rattle.tta_machine.specs.declared.draft.Named.{Named}
 use Rattle.tta_machine.specs.declared.draft.Named.TheVariants as place
 use Rattle.tta_machine.specs.declared.draft.Draft.{Draft}
-use Rattle.tta_arch.specs.declared.parts.Socket.{Socket}
-use Rattle.tta_arch.specs.declared.parts.File.{File}
-use Rattle.tta_arch.specs.declared.parts.ImmUnit.{ImmUnit}
 use Rattle.tta_arch.specs.declared.parts.Unit.{Unit as OpUnit}
-use Rattle.tta_arch.specs.declared.parts.Guard.{Guard}
-use Rattle.tta_arch.specs.declared.parts.Template.{Template}
-use Rattle.tta_arch.specs.declared.parts.Control.{Control}
-use Rattle.tta_arch.specs.Joins.{is_same}
-use Rattle.tta_arch.specs.Rules.{IsMachineName, IsBusSet, is_socket, is_port_socket, is_from_to, is_file, is_imm, is_unit, is_unit_op, same_op, are_different, is_guard, is_template, is_control}
 use Rattle.tta_machine.specs.Kept.{NamesAreThere}
 use Rattle.tta_machine.proofs.Naming.{named_in-push}
 

@@ -5,9 +5,7 @@ use Rattle.std.specs.List.{list_all, cons_option}
 use Rattle.std.specs.Str.{bytes_eq}
 use Rattle.std.proofs.lemmas.Bool.{and_parts}
 use Rattle.std.proofs.lemmas.Slice.Eq.{bytes_eq-Decides}
-use Rattle.tta_reading.specs.Lines.{Line, Lexeme}
-use Rattle.tta_reading.specs.Words.{is_keyword, is_name_kind}
-use Rattle.tta_reading.specs.Steps.{only_if}
+use Rattle.tta_machine.specs.Cited.{Line, Lexeme, is_keyword, is_name_kind, only_if}
 use Rattle.tta_machine.specs.Forms.{BusForm, SocketForm, FileForm, ImmForm, UnitForm, OpForm, GuardForm, TemplateForm, ControlForm, SpaceForm, bus_form, socket_form, file_form, imm_form, unit_form, op_form, guard_form, template_form, control_form, space_form}
 use Rattle.tta_machine.specs.Grammar.{bus_lines, socket_lines, file_lines, imm_lines, unit_lines, op_lines, guard_lines, template_lines, control_lines, space_lines, is_declaration}
 

@@ -1,10 +1,8 @@
 -- Texts one past each limit: they are refused at the line past it, so all lines before it are read.
 use Rattle.std.specs.Prelude.{◌≡◌, ℕ, ◌+◌, ◌/◌, ◌%◌, List, [], ◌∷◌, ◌++◌, map, replicate, Err, refl, codes}
 use Rattle.std.proofs.Common.{lit<}
-use Rattle.tta_ops.specs.Reserved.{is_reserved, AreFree}
-use Rattle.tta_ops.specs.Units.{Units}
+use Rattle.tta_machine.specs.Cited.{is_reserved, AreFree, Units, numbers}
 use Rattle.tta_machine.specs.declared.refusal.Refusal.TheVariants.{Syntax, Range, Missing}
-use Rattle.tta_arch.specs.Fields.{numbers}
 use Rattle.tta_machine.proofs.Readings.{read, read_with, distinct_from, arities_from}
 
 -- the k-th of up to 256 names that begin with an N

@@ -4,14 +4,12 @@ use Rattle.std.specs.Prelude.{if◌then◌else◌}
 use Rattle.std.specs.Option.{option_map_or}
 use Rattle.std.specs.List.{AllByRecursion}
 use Rattle.std.proofs.lemmas.Option.{cond_some}
-use Rattle.tta_reading.specs.Names.{named_in}
-use Rattle.tta_reading.specs.Steps.{or_refuse}
+use Rattle.tta_machine.specs.Cited.{named_in, or_refuse, is_socket, is_port_socket}
 use Rattle.tta_reading.proofs.Steps.{same_ok, then-some}
 use Rattle.tta_machine.specs.declared.refusal.Refusal.TheVariants.{Unknown}
 use Rattle.tta_machine.specs.declared.draft.Named.{Named}
 use Rattle.tta_machine.specs.declared.draft.Named.TheVariants as place
 use Rattle.tta_machine.specs.declared.draft.Draft.{Draft}
-use Rattle.tta_arch.specs.Rules.{is_socket, is_port_socket}
 use Rattle.tta_machine.specs.Draft.{bus_place, socket_place, file_place, imm_place, unit_place, bus_named, socket_named, file_named, imm_named, unit_named}
 use Rattle.tta_machine.specs.Declarations.{buses_named, port_named}
 use Rattle.tta_machine.specs.Kept.{NamesAreThere}

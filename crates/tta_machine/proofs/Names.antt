@@ -3,9 +3,7 @@ use Rattle.std.proofs.Common.{◌≡◌, List, [], ◌∷◌, refl, inl, inr}
 use Rattle.std.specs.Prelude.{Some, None, map, if◌then◌else◌}
 use Rattle.std.specs.List.{list_all}
 use Rattle.std.proofs.lemmas.Bool.{cases_Bool}
-use Rattle.tta_reading.specs.declared.word.Word.{Word}
-use Rattle.tta_reading.specs.Lines.{plain, texts}
-use Rattle.tta_reading.specs.Words.{is_name_kind}
+use Rattle.tta_machine.specs.Cited.{Word, plain, texts, is_name_kind}
 use Rattle.tta_machine.specs.Forms.{names_alone}
 
 pub names_alone_of : (words : List Word)

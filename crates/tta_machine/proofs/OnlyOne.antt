@@ -1,8 +1,6 @@
 -- Lines describe at most one machine.
 use Rattle.std.proofs.Common.{◌≡◌, ◌∷◌, [], ℕ, List, sym, ◌∙◌, filter_map}
-use Rattle.tta_reading.specs.Lines.{Line}
-use Rattle.tta_ops.specs.Units.{Units}
-use Rattle.tta_arch.specs.Machine.{Machine}
+use Rattle.tta_machine.specs.Cited.{Line, Units, Machine}
 use Rattle.tta_machine.specs.Grammar.{IsMachineText, IsSize, space_lines, data_size, frame_size}
 
 only_size : (sizes : List ℕ) (a b : ℕ) → IsSize sizes a → IsSize sizes b → a ≡ b

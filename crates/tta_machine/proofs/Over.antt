@@ -6,18 +6,10 @@ use Rattle.std.specs.Option.{option_map_or}
 use Rattle.std.specs.List.{AllByRecursion}
 use Rattle.std.proofs.lemmas.Option.{slice_get_within, slice_get-get_or}
 use Rattle.tta_list.proofs.Lists.{all_one}
-use Rattle.tta_reading.specs.Lines.{lines_of}
+use Rattle.tta_machine.specs.Cited.{lines_of, Units, named, OpId, Op, Ldw, Stw, Ldf, Stf, Out, Take, Set, UnitOp, Machine, op_at, StandsOver, is_named}
 use Rattle.tta_reading.proofs.TextNames.{LineNames, text_names}
-use Rattle.tta_ops.specs.Units.{Units, named}
-use Rattle.tta_ops.specs.declared.OpId.{OpId}
 use Rattle.tta_ops.proofs.Named.{named_get}
-use Rattle.tta_arch.specs.declared.parts.Op.{Op}
-use Rattle.tta_arch.specs.declared.parts.Op.TheVariants.{Ldw, Stw, Ldf, Stf, Out, Take, Set}
-use Rattle.tta_arch.specs.declared.parts.UnitOp.{UnitOp}
 use Rattle.tta_arch.specs.declared.parts.Unit.{Unit as OpUnit}
-use Rattle.tta_arch.specs.Machine.{Machine}
-use Rattle.tta_arch.specs.Effects.{op_at}
-use Rattle.tta_arch.specs.Over.{StandsOver, is_named}
 use Rattle.tta_machine.specs.Declarations.{op_named, timed_op, untimed_op, arity_of}
 use Rattle.tta_machine.specs.Forms.{OpForm, UnitForm}
 use Rattle.tta_machine.specs.Grammar.{IsMachineText, op_lines, unit_lines, socket_names, op_made, unit_made}

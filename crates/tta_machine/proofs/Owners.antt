@@ -6,9 +6,7 @@ use Rattle.std.proofs.lemmas.Bool.{or_parts, ne_eqb, le-leb}
 use Rattle.std.proofs.lemmas.List.Folds.{list_any-append}
 use Rattle.tta_list.proofs.Lists.{count_changed}
 use Rattle.tta_arch.specs.declared.parts.Unit.{Unit as OpUnit}
-use Rattle.tta_arch.specs.declared.parts.UnitOp.{UnitOp}
-use Rattle.tta_arch.specs.declared.parts.Op.{Op}
-use Rattle.tta_arch.specs.Rules.{has_one_owner}
+use Rattle.tta_machine.specs.Cited.{UnitOp, Op, has_one_owner}
 use Rattle.tta_machine.specs.Declarations.{has_op, has_other, with_op}
 
 -- the units that have an operation of this kind, and so serve its space or the output

@@ -7,14 +7,12 @@ use Rattle.std.proofs.lemmas.Bool.{and_parts, not-true, false_from_ne_true, both
 use Rattle.std.proofs.lemmas.List.Folds.{list_any_at}
 use Rattle.std.proofs.lemmas.Option.{slice_get_within, get_or_from_slice_get}
 use Rattle.std.proofs.lemmas.Slice.Eq.{bytes_eq-Decides}
-use Rattle.tta_reading.specs.Names.{named_in}
-use Rattle.tta_reading.specs.Steps.{or_refuse}
+use Rattle.tta_machine.specs.Cited.{named_in, or_refuse, are_different}
 use Rattle.tta_reading.proofs.Steps.{same_ok, then-some}
 use Rattle.tta_machine.specs.declared.refusal.Refusal.TheVariants.{Unknown}
 use Rattle.tta_machine.specs.declared.draft.Named.{Named}
 use Rattle.tta_machine.specs.declared.draft.Named.TheVariants as place
 use Rattle.tta_machine.specs.declared.draft.Draft.{Draft}
-use Rattle.tta_arch.specs.Rules.{are_different}
 use Rattle.tta_machine.specs.Draft.{bus_named, socket_named, file_named, imm_named}
 use Rattle.tta_machine.specs.Declarations.{buses_named, port_named}
 use Rattle.tta_machine.specs.Kept.{IsDraft}

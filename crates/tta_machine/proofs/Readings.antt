@@ -8,17 +8,10 @@ use Rattle.std.proofs.lemmas.List.Folds.{list_any_at}
 use Rattle.std.proofs.lemmas.Option.{slice_get-get_or}
 use Rattle.std.proofs.lemmas.Slice.Eq.{bytes_eq-Decides}
 use Rattle.tta_list.proofs.Lists.{list_all_one}
-use Rattle.tta_text.specs.Numbers.{number_of, digits_of, value_below}
-use Rattle.tta_text.specs.Tokens.{tokens_of, tokens_from, piece_at, number_piece, mark_piece}
-use Rattle.tta_reading.specs.Lines.{lines_of}
-use Rattle.tta_ops.specs.Reserved.{is_reserved, AreFree}
-use Rattle.tta_ops.specs.Units.{Units, AreDistinct, AreArities}
+use Rattle.tta_machine.specs.Cited.{number_of, digits_of, value_below, tokens_of, tokens_from, piece_at, number_piece, mark_piece, lines_of, is_reserved, AreFree, Units, AreDistinct, AreArities, are_different, is_from_to, width_for, Machine}
 use Rattle.tta_machine.specs.declared.refusal.Refusal.TheVariants.{Syntax, Unknown, Twice, Range, Missing, TooNarrow}
-use Rattle.tta_arch.specs.Rules.{are_different, is_from_to}
-use Rattle.tta_arch.specs.Fields.{width_for}
 use Rattle.tta_machine.specs.Forms.{bus_form, socket_form, file_form, imm_form, unit_form, op_form, guard_form, template_form, control_form, space_form}
 use Rattle.tta_machine.specs.Declarations.{take_bus, take_socket, take_file, take_imm, take_unit, take_op, take_guard, take_template, take_control, take_space}
-use Rattle.tta_arch.specs.Machine.{Machine}
 use Rattle.tta_machine.specs.Grammar.{IsMachineText}
 use Rattle.tta_machine.specs.Text.{take_line, machine_of_text, Refused}
 use Rattle.tta_arch.proofs.Facts.{from_to-least, from_to-greatest}

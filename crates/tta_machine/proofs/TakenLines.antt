@@ -4,20 +4,11 @@ use Rattle.std.specs.Prelude.{nat_lt, if◌then◌else◌}
 use Rattle.std.specs.Option.{option_map_or}
 use Rattle.std.specs.List.{AllByRecursion}
 use Rattle.std.proofs.lemmas.Bool.{ltb-true, ltb-false}
-use Rattle.tta_reading.specs.Lines.{Line, Lexeme}
-use Rattle.tta_reading.specs.Words.{name_of}
-use Rattle.tta_reading.specs.Words.{value_of, is_mark}
-use Rattle.tta_reading.specs.Steps.{at_line}
+use Rattle.tta_machine.specs.Cited.{Line, Lexeme, name_of, value_of, is_mark, at_line, Units, Template, Control, Machine, taken_width, IsMachine, is_control}
 use Rattle.tta_reading.proofs.Steps.{same_ok, then-some, only_if-some, then-ok, at_line-ok}
 use Rattle.tta_reading.proofs.TextNames.{LineNames}
-use Rattle.tta_ops.specs.Units.{Units}
 use Rattle.tta_machine.specs.declared.refusal.Refusal.TheVariants.{Missing, TooNarrow}
 use Rattle.tta_machine.specs.declared.draft.Draft.{Draft}
-use Rattle.tta_arch.specs.declared.parts.Template.{Template}
-use Rattle.tta_arch.specs.declared.parts.Control.{Control}
-use Rattle.tta_arch.specs.Machine.{Machine}
-use Rattle.tta_arch.specs.Fields.{taken_width}
-use Rattle.tta_arch.specs.Rules.{IsMachine, is_control}
 use Rattle.tta_machine.specs.Draft.{nothing, machine_of}
 use Rattle.tta_machine.specs.Forms.{one_of_two, names_alone, SocketForm, TemplateForm, socket_form, template_form}
 use Rattle.tta_machine.specs.Text.{take_line, Refused, take_lines, narrow_line, complete}

@@ -5,15 +5,10 @@ use Rattle.std.specs.Option.{option_map_or}
 use Rattle.std.proofs.lemmas.Bool.{or_parts, and_from, not-false, leb-false, lt-ltb}
 use Rattle.std.proofs.lemmas.List.{length_push}
 use Rattle.tta_list.proofs.Lists.{list_all_push, all_push}
-use Rattle.tta_text.specs.Words.{is_name}
-use Rattle.tta_reading.specs.Names.{Declared}
+use Rattle.tta_machine.specs.Cited.{is_name, Declared, File, Guard, Template, IsBusSet, is_from_to, is_socket, is_port_socket, is_guard, same_guard, is_template, is_control}
 use Rattle.tta_machine.specs.declared.draft.Named.{Named}
 use Rattle.tta_machine.specs.declared.draft.Named.TheVariants as place
 use Rattle.tta_machine.specs.declared.draft.Draft.{Draft}
-use Rattle.tta_arch.specs.declared.parts.File.{File}
-use Rattle.tta_arch.specs.declared.parts.Guard.{Guard}
-use Rattle.tta_arch.specs.declared.parts.Template.{Template}
-use Rattle.tta_arch.specs.Rules.{IsBusSet, is_from_to, is_socket, is_port_socket, is_guard, same_guard, is_template, is_control}
 use Rattle.tta_machine.specs.Forms.{GuardForm, TemplateForm, ControlForm, SpaceForm}
 use Rattle.tta_machine.specs.Draft.{is_too_long}
 use Rattle.tta_machine.specs.Declarations.{bus_set}

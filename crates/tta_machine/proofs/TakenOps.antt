@@ -9,16 +9,10 @@ use Rattle.std.proofs.lemmas.Bool.Decides.{nat_tests}
 use Rattle.std.proofs.lemmas.List.{length_push}
 use Rattle.tta_list.proofs.Lists.{list_all_push, list_all_changed, list_all_one}
 use Rattle.tta_list.proofs.Tests.{and_map}
-use Rattle.tta_ops.specs.Units.{Units, named, first_at}
+use Rattle.tta_machine.specs.Cited.{Units, named, first_at, Socket, UnitOp, Op, Ldw, Stw, Ldf, Stf, Out, Take, Set, has_result, is_from_to, is_socket, is_port_socket, fits_kind, is_unit, is_unit_op, same_op, is_data_op, is_frame_op, is_stream_op}
 use Rattle.tta_machine.specs.declared.draft.Named.TheVariants as place
 use Rattle.tta_machine.specs.declared.draft.Draft.{Draft}
-use Rattle.tta_arch.specs.declared.parts.Socket.{Socket}
 use Rattle.tta_arch.specs.declared.parts.Unit.{Unit as OpUnit}
-use Rattle.tta_arch.specs.declared.parts.UnitOp.{UnitOp}
-use Rattle.tta_arch.specs.declared.parts.Op.{Op}
-use Rattle.tta_arch.specs.declared.parts.Op.TheVariants.{Ldw, Stw, Ldf, Stf, Out, Take, Set}
-use Rattle.tta_arch.specs.Effects.{has_result}
-use Rattle.tta_arch.specs.Rules.{is_from_to, is_socket, is_port_socket, fits_kind, is_unit, is_unit_op, same_op, is_data_op, is_frame_op, is_stream_op}
 use Rattle.tta_machine.specs.Forms.{OpForm}
 use Rattle.tta_machine.specs.Declarations.{op_named, timed_op, untimed_op, arity_of, is_latency, is_served, has_other, with_op}
 use Rattle.tta_machine.specs.Kept.{IsDraft}

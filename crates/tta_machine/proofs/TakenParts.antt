@@ -7,18 +7,11 @@ use Rattle.std.proofs.lemmas.Bool.{or_parts, and_from, not-false, leb-false}
 use Rattle.std.proofs.lemmas.List.{length_push}
 use Rattle.std.proofs.lemmas.List.Elements.{filter-append}
 use Rattle.tta_list.proofs.Lists.{list_all_push, list_all_weaker, all_push, all_weaker}
-use Rattle.tta_text.specs.Words.{is_name}
-use Rattle.tta_reading.specs.Names.{Declared}
+use Rattle.tta_machine.specs.Cited.{is_name, Declared, Socket, File, ImmUnit, Control, Op, IsBusSet, is_from_to, is_socket, is_port_socket, is_bus, is_file, is_imm, is_unit, is_guard, is_template, is_control, has_one_owner, is_data_op, is_frame_op, is_stream_op}
 use Rattle.tta_machine.specs.declared.draft.Named.{Named}
 use Rattle.tta_machine.specs.declared.draft.Named.TheVariants as place
 use Rattle.tta_machine.specs.declared.draft.Draft.{Draft}
-use Rattle.tta_arch.specs.declared.parts.Socket.{Socket}
-use Rattle.tta_arch.specs.declared.parts.File.{File}
-use Rattle.tta_arch.specs.declared.parts.ImmUnit.{ImmUnit}
 use Rattle.tta_arch.specs.declared.parts.Unit.{Unit as OpUnit}
-use Rattle.tta_arch.specs.declared.parts.Control.{Control}
-use Rattle.tta_arch.specs.declared.parts.Op.{Op}
-use Rattle.tta_arch.specs.Rules.{IsBusSet, is_from_to, is_socket, is_port_socket, is_bus, is_file, is_imm, is_unit, is_guard, is_template, is_control, has_one_owner, is_data_op, is_frame_op, is_stream_op}
 use Rattle.tta_machine.specs.Forms.{BusForm, SocketForm, FileForm, ImmForm, UnitForm}
 use Rattle.tta_machine.specs.Draft.{is_too_long}
 use Rattle.tta_machine.specs.Declarations.{bus_set}

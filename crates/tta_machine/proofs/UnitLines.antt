@@ -8,12 +8,10 @@ use Rattle.std.proofs.lemmas.List.{map-append, length-map}
 use Rattle.std.proofs.lemmas.Option.{slice_get-map, slice_get_within}
 use Rattle.std.proofs.lemmas.Slice.Eq.{bytes_eq-Decides}
 use Rattle.tta_list.proofs.Lists.{slice_get-back}
-use Rattle.tta_reading.specs.Names.{named_in}
-use Rattle.tta_ops.specs.Units.{Units}
+use Rattle.tta_machine.specs.Cited.{named_in, Units, UnitOp}
 use Rattle.tta_machine.specs.declared.draft.Named.TheVariants as place
 use Rattle.tta_machine.specs.declared.draft.Draft.{Draft}
 use Rattle.tta_arch.specs.declared.parts.Unit.{Unit as OpUnit}
-use Rattle.tta_arch.specs.declared.parts.UnitOp.{UnitOp}
 use Rattle.tta_machine.specs.Forms.{UnitForm, OpForm}
 use Rattle.tta_machine.specs.Declarations.{with_op}
 use Rattle.tta_machine.specs.Kept.{IsDraft}

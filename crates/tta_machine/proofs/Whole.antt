@@ -1,14 +1,11 @@
 -- Taking the lines of a text one by one.
 use Rattle.std.proofs.Common.{◌≡◌, ℕ, ◌+◌, List, ◌∷◌, Result, Ok, Err, IfOk, IfErr, refl, ap, ◌∙◌}
-use Rattle.tta_reading.specs.Lines.{Line, lines_of}
+use Rattle.tta_machine.specs.Cited.{Line, lines_of, Units, Machine, StandsOver}
 use Rattle.tta_reading.specs.Steps.{◌>>=◌}
-use Rattle.tta_ops.specs.Units.{Units}
 use Rattle.tta_machine.specs.declared.refusal.Refusal.{Refusal}
 use Rattle.tta_machine.specs.declared.draft.Draft.{Draft}
 use Rattle.tta_machine.specs.declared.refusal.MachineError.{MachineError}
 use Rattle.tta_machine.specs.declared.refusal.MachineError.TheVariants as machine_error
-use Rattle.tta_arch.specs.Machine.{Machine}
-use Rattle.tta_arch.specs.Over.{StandsOver}
 use Rattle.tta_machine.specs.Grammar.{IsMachineText}
 use Rattle.tta_machine.specs.Draft.{nothing}
 use Rattle.tta_machine.specs.Text.{take_line, take_lines, complete, machine_of_text, HasCause, Refused}

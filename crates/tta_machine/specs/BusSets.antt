@@ -1,7 +1,7 @@
 -- The buses of a line as a set, where each stands once.
 use Rattle.std.specs.Prelude.{ℕ, ◌==◌, if◌then◌else◌, List, Option, Some, None}
 use Rattle.tta_machine.specs.Declarations.{bus_set}
-use Rattle.tta_arch.specs.Rules.{are_different}
+use Rattle.tta_machine.specs.Cited.{are_different}
 
 -- the set of these buses, and none where a bus stands twice
 abbrev pub set_once : List ℕ → Option ℕ

@@ -4,20 +4,14 @@ use Rattle.std.specs.Prelude.{ℕ, ◌+◌, ◌^◌, ◌==◌, Bool, true, false
 use Rattle.std.specs.Str.{bytes_eq}
 use Rattle.std.specs.Option.{option_map_or}
 use Rattle.std.specs.List.{list_any}
-use Rattle.tta_reading.specs.Steps.{◌>>=◌, ◌>>?◌, or_refuse, refuse_if}
-use Rattle.tta_ops.specs.Units.{Units, named}
+use Rattle.tta_machine.specs.Cited.{or_refuse, refuse_if, Units, named, UnitOp, Op, Ldw, Stw, Ldf, Stf, Out, Take, Set, Guard, is_from_to, are_different, same_op, is_data_op, is_frame_op, is_stream_op, same_guard, has_result}
+use Rattle.tta_reading.specs.Steps.{◌>>=◌, ◌>>?◌}
 use Rattle.std.specs.Prelude.{get_or}
 use Rattle.tta_machine.specs.declared.refusal.Refusal.{Refusal}
 use Rattle.tta_machine.specs.declared.refusal.Refusal.TheVariants.{Unknown, Twice, Range, Missing}
 use Rattle.tta_machine.specs.declared.draft.Named.TheVariants as place
 use Rattle.tta_machine.specs.declared.draft.Draft.{Draft}
 use Rattle.tta_arch.specs.declared.parts.Unit.{Unit as OpUnit}
-use Rattle.tta_arch.specs.declared.parts.UnitOp.{UnitOp}
-use Rattle.tta_arch.specs.declared.parts.Op.{Op}
-use Rattle.tta_arch.specs.declared.parts.Op.TheVariants.{Ldw, Stw, Ldf, Stf, Out, Take, Set}
-use Rattle.tta_arch.specs.declared.parts.Guard.{Guard}
-use Rattle.tta_arch.specs.Rules.{is_from_to, are_different, same_op, is_data_op, is_frame_op, is_stream_op, same_guard}
-use Rattle.tta_arch.specs.Effects.{has_result}
 use Rattle.tta_machine.specs.Forms.{BusForm, SocketForm, FileForm, ImmForm, UnitForm, OpForm, GuardForm, TemplateForm, ControlForm, SpaceForm}
 use Rattle.tta_machine.specs.Draft.{is_taken, is_too_long, bus_named, socket_named, file_named, imm_named, unit_named}
 

@@ -2,15 +2,12 @@
 use Rattle.std.specs.Prelude.{ℕ, Bool, ◌||◌, if◌then◌else◌, List, [], length, Option, Some, None, is_some, codes, nat_lt, unwrap_or}
 use Rattle.std.specs.Str.{bytes_eq}
 use Rattle.std.specs.Option.{option_map_or}
-use Rattle.tta_reading.specs.Names.{named_in}
+use Rattle.tta_machine.specs.Cited.{named_in, Control, Machine, is_socket}
 use Rattle.tta_machine.specs.declared.refusal.Refusal.{Refusal}
 use Rattle.tta_machine.specs.declared.refusal.Refusal.TheVariants.{Syntax, Unknown, Twice, Range, Missing, TooNarrow}
 use Rattle.tta_machine.specs.declared.draft.Named.{Named}
 use Rattle.tta_machine.specs.declared.draft.Named.TheVariants as named
 use Rattle.tta_machine.specs.declared.draft.Draft.{Draft}
-use Rattle.tta_arch.specs.declared.parts.Control.{Control}
-use Rattle.tta_arch.specs.Machine.{Machine}
-use Rattle.tta_arch.specs.Rules.{is_socket}
 
 -- the number of a refusal
 abbrev pub code_of : Refusal → ℕ

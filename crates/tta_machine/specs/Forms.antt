@@ -1,9 +1,8 @@
 -- The forms of a machine text's lines: which words a declaration is made of. Each stands without its first word,
 -- which chooses the form.
 use Rattle.std.specs.Prelude.{ℕ, Bool, true, false, if◌then◌else◌, List, [], ◌∷◌, Option, Some, None, codes}
-use Rattle.tta_reading.specs.Lines.{Lexeme, Line}
-use Rattle.tta_reading.specs.Words.{is_keyword, is_mark, name_of, value_of}
-use Rattle.tta_reading.specs.Steps.{◌>>?◌, only_if}
+use Rattle.tta_machine.specs.Cited.{Lexeme, Line, is_keyword, is_mark, name_of, value_of, only_if}
+use Rattle.tta_reading.specs.Steps.{◌>>?◌}
 
 -- one of two words
 abbrev pub one_of_two : (yes no : List ℕ) → Lexeme → Option Bool

@@ -1,6 +1,6 @@
 -- A guard of a line.
 use Rattle.std.specs.Prelude.{ℕ, Bool}
-use Rattle.tta_arch.specs.declared.parts.Guard.{Guard}
+use Rattle.tta_machine.specs.Cited.{Guard}
 
 -- the guard of a bus on this register, in this sense
 abbrev pub guard_of : (bus file index : ℕ) → (inverted : Bool) → Guard

@@ -2,11 +2,10 @@
 use Rattle.std.specs.Prelude.{◌≡◌, ℕ, ◌<◌, ◌≤◌, ◌^◌, true, List, length, Some, slice_get, unwrap_or}
 use Rattle.std.specs.Option.{option_map_or}
 use Rattle.std.specs.List.{list_all, AllByRecursion}
-use Rattle.tta_reading.specs.Names.{Declared, named_in}
+use Rattle.tta_machine.specs.Cited.{Declared, named_in, IsMachineName, IsBusSet, are_different, has_one_owner, is_bus, is_file, is_imm, is_unit, is_guard, same_guard, is_template, is_control, is_data_op, is_frame_op, is_stream_op}
 use Rattle.tta_machine.specs.declared.draft.Named.{Named}
 use Rattle.tta_machine.specs.declared.draft.Named.TheVariants as place
 use Rattle.tta_machine.specs.declared.draft.Draft.{Draft}
-use Rattle.tta_arch.specs.Rules.{IsMachineName, IsBusSet, are_different, has_one_owner, is_bus, is_file, is_imm, is_unit, is_guard, same_guard, is_template, is_control, is_data_op, is_frame_op, is_stream_op}
 
 -- ---- limits
 

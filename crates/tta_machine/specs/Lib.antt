@@ -1,3 +1,4 @@
+pub mod Cited
 pub mod Draft
 pub mod Forms
 pub mod Declarations

@@ -1,11 +1,8 @@
 -- What a machine has once, and which operations serve it.
 use Rattle.std.specs.Prelude.{◌<◌, Bool, length}
-use Rattle.tta_ops.specs.Units.{Units}
-use Rattle.tta_arch.specs.declared.parts.Op.{Op}
-use Rattle.tta_arch.specs.declared.parts.Op.TheVariants.{Set}
+use Rattle.tta_machine.specs.Cited.{Units, Op, Set, is_data_op, is_frame_op, is_stream_op}
 use Rattle.tta_machine.specs.declared.services.Service.{Service}
 use Rattle.tta_machine.specs.declared.services.Service.TheVariants.{Data, Frame, Streams}
-use Rattle.tta_arch.specs.Rules.{is_data_op, is_frame_op, is_stream_op}
 
 -- whether an operation serves the data space, the frame space, or the input and the output
 abbrev pub serves : Service → Op → Bool

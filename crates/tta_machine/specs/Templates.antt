@@ -1,6 +1,6 @@
 -- A template of a line.
 use Rattle.std.specs.Prelude.{ℕ, [], ◌∷◌, ◌++◌, length}
-use Rattle.tta_arch.specs.declared.parts.Template.{Template}
+use Rattle.tta_machine.specs.Cited.{Template}
 use Rattle.tta_machine.specs.declared.draft.Draft.{Draft}
 use Rattle.tta_machine.specs.declared.draft.Named.TheVariants as place
 

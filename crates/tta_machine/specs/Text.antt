@@ -1,17 +1,11 @@
 -- Which machine a text describes, and where it is refused.
 use Rattle.std.specs.Prelude.{◌≡◌, ℕ, ◌+◌, nat_lt, if◌then◌else◌, List, [], ◌∷◌, length, Option, Some, None, Result, Ok, Err, codes}
 use Rattle.std.specs.Option.{option_map_or}
-use Rattle.tta_reading.specs.Lines.{Line, Lexeme, lines_of}
-use Rattle.tta_reading.specs.Words.{is_keyword}
-use Rattle.tta_reading.specs.Steps.{◌>>=◌, or_refuse, at_line}
-use Rattle.tta_ops.specs.Units.{Units}
+use Rattle.tta_machine.specs.Cited.{Line, Lexeme, lines_of, is_keyword, or_refuse, at_line, Units, Template, Control, Machine, taken_width}
+use Rattle.tta_reading.specs.Steps.{◌>>=◌}
 use Rattle.tta_machine.specs.declared.refusal.Refusal.{Refusal}
 use Rattle.tta_machine.specs.declared.refusal.Refusal.TheVariants.{Syntax, Missing, TooNarrow}
 use Rattle.tta_machine.specs.declared.draft.Draft.{Draft}
-use Rattle.tta_arch.specs.declared.parts.Template.{Template}
-use Rattle.tta_arch.specs.declared.parts.Control.{Control}
-use Rattle.tta_arch.specs.Machine.{Machine}
-use Rattle.tta_arch.specs.Fields.{taken_width}
 use Rattle.tta_machine.specs.declared.refusal.MachineError.{MachineError}
 use Rattle.tta_machine.specs.declared.refusal.MachineError.TheVariants as machine_error
 use Rattle.tta_machine.specs.Draft.{nothing, machine_of, code_of}

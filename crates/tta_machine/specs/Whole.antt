@@ -1,15 +1,12 @@
 -- What becomes of a text as a whole.
 use Rattle.std.specs.Prelude.{◌≡◌, ℕ, List, Some, None, Result, Ok, Err}
-use Rattle.tta_reading.specs.Lines.{Line}
-use Rattle.tta_ops.specs.Units.{Units}
-use Rattle.tta_arch.specs.declared.parts.Template.{Template}
+use Rattle.tta_machine.specs.Cited.{Line, Units, Template, Machine}
 use Rattle.tta_machine.specs.declared.refusal.Refusal.{Refusal}
 use Rattle.tta_machine.specs.declared.refusal.Refusal.TheVariants.{TooNarrow}
 use Rattle.tta_machine.specs.declared.refusal.MachineError.{MachineError}
 use Rattle.tta_machine.specs.declared.refusal.MachineError.TheVariants as machine_error
 use Rattle.tta_machine.specs.declared.draft.Draft.{Draft}
 use Rattle.tta_machine.specs.Draft.{nothing, code_of}
-use Rattle.tta_arch.specs.Machine.{Machine}
 use Rattle.tta_machine.specs.Text.{take_lines, narrow_line, complete}
 use Rattle.tta_machine.specs.Kept.{IsDraft}
 

@@ -8,9 +8,7 @@ use Rattle.std.proofs.Math.Pow.{shr_mono}
 use Rattle.tta_list.proofs.Lists.{list_all_one}
 use Rattle.tta_arch.specs.declared.parts.Bus.{Bus}
 use Rattle.tta_arch.specs.declared.ends.Source.TheVariants as source
-use Rattle.tta_arch.specs.Machine.{Machine}
-use Rattle.tta_arch.specs.Rules.{IsMachine, is_bus, is_from_to, is_socket, is_port_socket}
-use Rattle.tta_arch.specs.Joins.{holds_word, is_source_on}
+use Rattle.tta_moves.specs.Cited.{Machine, IsMachine, is_bus, is_from_to, is_socket, is_port_socket, holds_word, is_source_on}
 use Rattle.tta_arch.proofs.Widths.{no_high}
 
 -- the greatest number below 2 ^ 16 is no row of ones in a signed field

@@ -2,8 +2,7 @@
 use Rattle.std.proofs.Common.{◌≡◌, ℕ, zero, suc, ◌+◌, ◌-◌, ◌<◌, ◌≤◌, Bool, true, false, List, [], ◌∷◌, Option, Some, None, refl, sym, ap, arith, take}
 use Rattle.std.specs.Prelude.{slice_get, if◌then◌else◌}
 use Rattle.std.proofs.lemmas.Bool.Decides.{nat_tests}
-use Rattle.tta_arch.specs.Machine.{Machine}
-use Rattle.tta_arch.specs.Effects.{or_else, first_some}
+use Rattle.tta_moves.specs.Cited.{Machine, or_else, first_some}
 use Rattle.tta_moves.specs.declared.items.Item.{Item}
 use Rattle.tta_moves.specs.declared.items.PlacedItem.{PlacedItem}
 use Rattle.tta_moves.specs.Touches.{is_control}

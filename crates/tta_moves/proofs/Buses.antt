@@ -5,13 +5,7 @@ use Rattle.std.specs.Option.{option_map_or}
 use Rattle.std.specs.List.{list_any, range_with_len}
 use Rattle.std.proofs.lemmas.Bool.{cases_lt, and_parts}
 use Rattle.tta_list.proofs.Lists.{all_one}
-use Rattle.tta_arch.specs.Machine.{Machine}
-use Rattle.tta_arch.specs.Rules.{IsMachine, IsBusSet}
-use Rattle.tta_arch.specs.declared.ends.GuardRef.{GuardRef}
-use Rattle.tta_arch.specs.declared.ends.Source.{Source}
-use Rattle.tta_arch.specs.declared.ends.Dest.{Dest}
-use Rattle.tta_arch.specs.declared.parts.Socket.{Socket}
-use Rattle.tta_arch.specs.Joins.{has_bit, is_same, has_socket, dest_socket, joins, is_source_on, is_dest_on, has_guard}
+use Rattle.tta_moves.specs.Cited.{Machine, IsMachine, IsBusSet, GuardRef, Source, Dest, Socket, has_bit, is_same, has_socket, dest_socket, joins, is_source_on, is_dest_on, has_guard}
 use Rattle.tta_arch.proofs.Widths.{no_high}
 
 -- a socket of a machine joins buses of the machine

@@ -6,8 +6,7 @@ use Rattle.std.proofs.lemmas.Bool.{and_from, le-leb, eqb-true}
 use Rattle.std.proofs.lemmas.List.{take_all}
 use Rattle.std.proofs.lemmas.List.Elements.{filter-append}
 use Rattle.std.proofs.lemmas.Option.{slice_get-get_or}
-use Rattle.tta_arch.specs.Machine.{Machine}
-use Rattle.tta_arch.specs.Legal.{Ends, Slots, ends_of, all_slots, keeps_taken, is_joined, has_reads, has_writes, are_apart, can_move, reads_file, reads_imm, writes_file}
+use Rattle.tta_moves.specs.Cited.{Machine, Ends, Slots, ends_of, all_slots, keeps_taken, is_joined, has_reads, has_writes, are_apart, can_move, reads_file, reads_imm, writes_file}
 use Rattle.tta_moves.specs.declared.items.Item.{Item}
 use Rattle.tta_moves.specs.declared.items.PlacedItem.{PlacedItem}
 use Rattle.tta_moves.specs.declared.items.Placed.{Placed}

@@ -7,21 +7,11 @@ use Rattle.std.proofs.lemmas.Bool.{and_from, and_parts, ltb-true, lt-ltb}
 use Rattle.std.proofs.lemmas.Bool.Decides.{nat_tests}
 use Rattle.std.proofs.lemmas.Option.{slice_get_within}
 use Rattle.tta_list.proofs.Lists.{list_all_one}
-use Rattle.tta_arch.specs.Machine.{Machine}
-use Rattle.tta_arch.specs.Rules.{IsMachine, is_file, is_imm, is_from_to, is_socket, is_guard, is_template}
-use Rattle.tta_arch.specs.declared.ends.GuardRef.{GuardRef}
-use Rattle.tta_arch.specs.declared.ends.Source.{Source}
+use Rattle.tta_moves.specs.Cited.{Machine, IsMachine, is_file, is_imm, is_from_to, is_socket, is_guard, is_template, GuardRef, Source, Dest, File, ImmUnit, Guard, UnitOp, Place, KeptReg, KeptImm, KeptOperand, KeptRa, KeptPort, same_place, target_of, op_at, has_result, has_socket, within, source_socket, dest_socket, joins, is_source_on, is_dest_on, has_guard, is_same_guard, is_same}
 use Rattle.tta_arch.specs.declared.ends.Source.TheVariants as source
-use Rattle.tta_arch.specs.declared.ends.Dest.{Dest}
 use Rattle.tta_arch.specs.declared.ends.Dest.TheVariants as dest
-use Rattle.tta_arch.specs.declared.parts.File.{File}
-use Rattle.tta_arch.specs.declared.parts.ImmUnit.{ImmUnit}
-use Rattle.tta_arch.specs.declared.parts.Guard.{Guard}
 use Rattle.tta_arch.specs.declared.parts.Template.{Template}
 use Rattle.tta_arch.specs.declared.parts.Unit.{Unit as OpUnit}
-use Rattle.tta_arch.specs.declared.parts.UnitOp.{UnitOp}
-use Rattle.tta_arch.specs.Effects.{Place, KeptReg, KeptImm, KeptOperand, KeptRa, KeptPort, same_place, target_of, op_at, has_result}
-use Rattle.tta_arch.specs.Joins.{has_socket, within, source_socket, dest_socket, joins, is_source_on, is_dest_on, has_guard, is_same_guard, is_same}
 use Rattle.tta_moves.specs.declared.items.ItemSource.{ItemSource}
 use Rattle.tta_moves.specs.declared.items.ItemSource.TheVariants.{Port, Address}
 use Rattle.tta_moves.specs.declared.items.LongValue.{LongValue}

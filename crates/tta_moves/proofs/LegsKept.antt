@@ -1,6 +1,6 @@
 -- Two runs go through the same legs where each pair of their blocks does the same.
 use Rattle.std.proofs.Common.{◌≡◌, ◌≢◌, ℕ, zero, suc, List, [], ◌∷◌, drop, refl, sym, ap, subst, ◌∙◌}
-use Rattle.tta_list.specs.Legs.{Leave, ToNext, ToBlock, ToHalt, ToWait, ToNowhere, Outcome, Running, Halted, Waiting, Undefined, Run, after_block, leg, next_of, next_leg, legs, AllPairs}
+use Rattle.tta_moves.specs.Cited.{Leave, ToNext, ToBlock, ToHalt, ToWait, ToNowhere, Outcome, Running, Halted, Waiting, Undefined, Run, after_block, leg, next_of, next_leg, legs, AllPairs}
 
 all_drop : {A B : Type 0} (P : A → B → Type 0) (n : ℕ) (xs : List A) (ys : List B) → AllPairs P xs ys → AllPairs P (drop n xs) (drop n ys)
 all_drop P zero xs ys h = h

@@ -3,7 +3,7 @@ use Rattle.std.proofs.Common.{◌≡◌, ℕ, Bool, true, false, ◌∷◌, ◌+
 use Rattle.std.specs.Prelude.{if◌then◌else◌}
 use Rattle.std.specs.Option.{option_to_list}
 use Rattle.std.proofs.lemmas.Bool.Decides.{nat_tests}
-use Rattle.tta_arch.specs.Effects.{Place, KeptReg, KeptImm, KeptOperand, KeptRa, KeptPort, same_place, Written, kept}
+use Rattle.tta_moves.specs.Cited.{Place, KeptReg, KeptImm, KeptOperand, KeptRa, KeptPort, same_place, Written, kept}
 
 pub same_self : (p : Place) → same_place p p ≡ true
 same_self (KeptReg f i) = grind (arith, nat_tests)

@@ -1,14 +1,9 @@
 -- Small lists, and what the definitions make of them, on the machine of three buses.
 use Rattle.std.specs.Prelude.{◌≡◌, ℕ, zero, suc, ◌+◌, List, [], ◌∷◌, ◌++◌, length, map, if◌then◌else◌, true, false, Some, None, Option, refl}
 use Rattle.std.specs.List.{range_with_len}
-use Rattle.tta_ops.specs.Units.{Units}
-use Rattle.tta_arch.specs.declared.ends.Source.{Source}
+use Rattle.tta_moves.specs.Cited.{Units, Source, Dest, Machine, first_some, can_move, Running, Halted, Waiting, Undefined}
 use Rattle.tta_arch.specs.declared.ends.Source.TheVariants as source
-use Rattle.tta_arch.specs.declared.ends.Dest.{Dest}
 use Rattle.tta_arch.specs.declared.ends.Dest.TheVariants as dest
-use Rattle.tta_arch.specs.Machine.{Machine}
-use Rattle.tta_arch.specs.Effects.{first_some}
-use Rattle.tta_arch.specs.Legal.{can_move}
 use Rattle.tta_arch.proofs.Samples.{three_buses, with_input}
 use Rattle.tta_moves.specs.declared.items.ItemSource.TheVariants.{Port, Address}
 use Rattle.tta_moves.specs.declared.items.LongValue.TheVariants.{Word}
@@ -19,7 +14,6 @@ use Rattle.tta_moves.specs.declared.items.Slot.{Slot}
 use Rattle.tta_moves.specs.declared.items.Slot.TheVariants.{Bus, Template}
 use Rattle.tta_moves.specs.declared.items.PlacedItem.{PlacedItem}
 use Rattle.tta_moves.specs.Meaning.{Held, Waits, does, lacks, do_items, has_meaning}
-use Rattle.tta_list.specs.Legs.{Running, Halted, Waiting, Undefined}
 use Rattle.tta_moves.specs.Runs.{lrun, begin}
 use Rattle.tta_moves.specs.Slots.{is_list, fits_cycle}
 use Rattle.tta_moves.specs.Bounds.{least, length_of}

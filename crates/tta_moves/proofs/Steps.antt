@@ -2,11 +2,7 @@
 use Rattle.std.proofs.Common.{◌≡◌, ℕ, Bool, true, false, [], ◌∷◌, ◌++◌, Option, Some, None, refl, sym, ap, ◌∙◌}
 use Rattle.std.specs.Prelude.{if◌then◌else◌, ◌==◌, ◌&&◌, ◌||◌, is_none, option_and_then}
 use Rattle.std.specs.Option.{option_map_or, option_to_list}
-use Rattle.tta_ops.specs.Units.{Units}
-use Rattle.tta_arch.specs.declared.ends.GuardRef.{GuardRef}
-use Rattle.tta_arch.specs.declared.parts.UnitOp.{UnitOp}
-use Rattle.tta_arch.specs.Machine.{Machine}
-use Rattle.tta_arch.specs.Effects.{Target, Reg, Imm, Operand, Trigger, Control, Jumps, Calls, Halts, Effect, Place, KeptOperand, KeptPort, same_place, Written, kept, Reads, guard_word, passes, is_active, moved, Brought, bring, op_at, has_result, Start, start_of, operand_of, write_of, has_unset, has_unset_guard, lacks_operand}
+use Rattle.tta_moves.specs.Cited.{Units, GuardRef, UnitOp, Machine, Target, Reg, Imm, Operand, Trigger, Control, Jumps, Calls, Halts, Effect, Place, KeptOperand, KeptPort, same_place, Written, kept, Reads, guard_word, passes, is_active, moved, Brought, bring, op_at, has_result, Start, start_of, operand_of, write_of, has_unset, has_unset_guard, lacks_operand}
 use Rattle.tta_moves.specs.Touches.{guard_place, place_written, is_at}
 use Rattle.tta_moves.specs.Meaning.{Waits, is_waiting, Held, read_held, result_at_once, acts, waits_for, arrives, does, lacks}
 use Rattle.tta_moves.proofs.Places.{kept_elsewhere}

@@ -1,8 +1,6 @@
 -- A list that waits does nothing more.
 use Rattle.std.proofs.Common.{◌≡◌, ℕ, true, List, [], ◌∷◌, refl}
-use Rattle.tta_ops.specs.Units.{Units}
-use Rattle.tta_arch.specs.Machine.{Machine}
-use Rattle.tta_arch.specs.Effects.{Effect}
+use Rattle.tta_moves.specs.Cited.{Units, Machine, Effect}
 use Rattle.tta_moves.specs.Meaning.{Held, is_waiting, does, does_all}
 
 pub stuck_all : (u : Units) (m : Machine) (back : ℕ) (h : Held) (es : List Effect) → is_waiting h.exit ≡ true → does_all u m back h es ≡ h

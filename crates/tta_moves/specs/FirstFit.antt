@@ -1,6 +1,6 @@
 -- The placement that puts each item where it fits first.
 use Rattle.std.specs.Prelude.{◌≡◌, ℕ, ◌<◌, ◌≤◌, Bool, true, false, List, [], ◌∷◌, ◌++◌, map, take, Some, slice_get}
-use Rattle.tta_arch.specs.Machine.{Machine}
+use Rattle.tta_moves.specs.Cited.{Machine}
 use Rattle.tta_moves.specs.declared.items.Item.{Item}
 use Rattle.tta_moves.specs.declared.items.Slot.{Slot}
 use Rattle.tta_moves.specs.declared.items.Slot.TheVariants.{Bus, Template}

@@ -1,9 +1,7 @@
 -- What holds of all lists and placements.
 use Rattle.std.specs.Prelude.{◌≡◌, ℕ, ◌-◌, ◌<◌, ◌^◌, true, List}
 use Rattle.tta_arch.specs.declared.ends.Source.TheVariants as source
-use Rattle.tta_arch.specs.Machine.{Machine}
-use Rattle.tta_arch.specs.Rules.{IsMachine}
-use Rattle.tta_arch.specs.Joins.{is_source_on}
+use Rattle.tta_moves.specs.Cited.{Machine, IsMachine, is_source_on}
 use Rattle.tta_moves.specs.declared.items.Item.{Item}
 use Rattle.tta_moves.specs.declared.items.Placed.{Placed}
 use Rattle.tta_moves.specs.Bounds.{Respects}

@@ -1,6 +1,6 @@
 -- A number for each place of a machine, for tables with an entry a place.
 use Rattle.std.specs.Prelude.{ℕ, ◌+◌, ◌*◌, Bool, true, ◌&&◌, nat_lt}
-use Rattle.tta_arch.specs.Effects.{Place, KeptReg, KeptImm, KeptOperand, KeptRa, KeptPort}
+use Rattle.tta_moves.specs.Cited.{Place, KeptReg, KeptImm, KeptOperand, KeptRa, KeptPort}
 
 -- the 8 files have 64 registers at most, the 4 immediate units 16; there are at most 32 units
 abbrev pub place_number : Place → ℕ

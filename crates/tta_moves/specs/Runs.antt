@@ -2,12 +2,9 @@
 use Rattle.std.specs.Prelude.{◌≡◌, ℕ, suc, ◌+◌, ◌<◌, ◌^◌, ◌==◌, Bool, true, false, not, ◌&&◌, if◌then◌else◌, List, [], ◌∷◌, length, filter, replicate, Option, Some, None, option_map, slice_index}
 use Rattle.std.specs.Option.{option_map_or}
 use Rattle.std.specs.List.{list_any}
-use Rattle.tta_ops.specs.Units.{Units}
-use Rattle.tta_arch.specs.Machine.{Machine}
-use Rattle.tta_arch.specs.Effects.{Jumps, Calls, Halts, Place, KeptReg, KeptImm, KeptOperand, KeptRa, KeptPort}
+use Rattle.tta_moves.specs.Cited.{Units, Machine, Jumps, Calls, Halts, Place, KeptReg, KeptImm, KeptOperand, KeptRa, KeptPort, Leave, ToNext, ToBlock, ToHalt, ToWait, ToNowhere, Run, legs}
 use Rattle.tta_moves.specs.declared.items.BlockList.{BlockList}
 use Rattle.tta_moves.specs.Meaning.{Exit, Next, Leaves, Waits, Held, do_items, has_meaning}
-use Rattle.tta_list.specs.Legs.{Leave, ToNext, ToBlock, ToHalt, ToWait, ToNowhere, Run, legs}
 
 -- ---- the words of blocks
 

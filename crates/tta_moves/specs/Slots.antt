@@ -3,15 +3,8 @@ use Rattle.std.specs.Prelude.{ℕ, ◌-◌, ◌^◌, ◌==◌, Bool, true, false
 use Rattle.std.specs.Option.{option_map_or}
 use Rattle.std.specs.List.{list_all, list_any, range_with_len}
 use Rattle.tta_arch.specs.declared.parts.Template.{Template as Field}
-use Rattle.tta_arch.specs.declared.ends.GuardRef.{GuardRef}
-use Rattle.tta_arch.specs.declared.ends.Source.{Source}
+use Rattle.tta_moves.specs.Cited.{GuardRef, Source, Dest, Machine, first_some, joins, Ends, Slots, can_move, are_different}
 use Rattle.tta_arch.specs.declared.ends.Source.TheVariants as source
-use Rattle.tta_arch.specs.declared.ends.Dest.{Dest}
-use Rattle.tta_arch.specs.Machine.{Machine}
-use Rattle.tta_arch.specs.Effects.{first_some}
-use Rattle.tta_arch.specs.Joins.{joins}
-use Rattle.tta_arch.specs.Legal.{Ends, Slots, can_move}
-use Rattle.tta_arch.specs.Rules.{are_different}
 use Rattle.tta_moves.specs.declared.items.ItemSource.{ItemSource}
 use Rattle.tta_moves.specs.declared.items.ItemSource.TheVariants.{Port, Address}
 use Rattle.tta_moves.specs.declared.items.Item.{Item}

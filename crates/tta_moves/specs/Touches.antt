@@ -1,11 +1,8 @@
 -- What an item reads and writes.
 use Rattle.std.specs.Prelude.{Bool, true, false, ◌||◌, if◌then◌else◌, Option, Some, None, is_none}
 use Rattle.std.specs.Option.{option_map_or}
-use Rattle.tta_arch.specs.declared.ends.GuardRef.{GuardRef}
-use Rattle.tta_arch.specs.declared.ends.Source.{Source}
+use Rattle.tta_moves.specs.Cited.{GuardRef, Source, Machine, Target, Reg, Imm, Operand, Trigger, Control, Jumps, Calls, Halts, Place, KeptReg, KeptImm, KeptOperand, KeptRa, KeptPort, same_place, target_of, op_at, has_result}
 use Rattle.tta_arch.specs.declared.ends.Source.TheVariants as source
-use Rattle.tta_arch.specs.Machine.{Machine}
-use Rattle.tta_arch.specs.Effects.{Target, Reg, Imm, Operand, Trigger, Control, Jumps, Calls, Halts, Place, KeptReg, KeptImm, KeptOperand, KeptRa, KeptPort, same_place, target_of, op_at, has_result}
 use Rattle.tta_moves.specs.declared.items.ItemSource.{ItemSource}
 use Rattle.tta_moves.specs.declared.items.ItemSource.TheVariants.{Port, Address}
 use Rattle.tta_moves.specs.declared.items.LongValue.{LongValue}

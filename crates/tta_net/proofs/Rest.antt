@@ -5,11 +5,7 @@ use Rattle.std.specs.List.{list_any}
 use Rattle.std.proofs.lemmas.Bool.{cases_lt, eq-eqb, or_right, or_left}
 use Rattle.std.proofs.lemmas.List.Folds.{list_any-append}
 use Rattle.std.proofs.lemmas.Option.{slice_get_past}
-use Rattle.tta_ops.specs.Units.{Units}
-use Rattle.tta_code.specs.Cycle.{State, start}
-use Rattle.tta_cores.specs.declared.cores.Core.{Core}
-use Rattle.tta_cores.specs.Network.{Network, Joined, joined, turn, interleaved}
-use Rattle.tta_cores.specs.Cluster.{cycles, first_states}
+use Rattle.tta_net.specs.Cited.{Units, State, start, Core, Network, Joined, joined, turn, interleaved, cycles, first_states}
 use Rattle.tta_cores.proofs.Clusters.{turn_none, turn_some, next_core}
 use Rattle.tta_net.specs.Clusters.{fault_at}
 use Rattle.tta_net.specs.Rounds.{numbers, steps_in, after_rounds}

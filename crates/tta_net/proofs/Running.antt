@@ -5,11 +5,7 @@ use Rattle.std.specs.List.{list_any}
 use Rattle.std.proofs.lemmas.Bool.{cases_lt}
 use Rattle.std.proofs.lemmas.List.{length-replicate}
 use Rattle.std.proofs.lemmas.List.Sums.{fold-append}
-use Rattle.tta_ops.specs.Units.{Units}
-use Rattle.tta_code.specs.Cycle.{State}
-use Rattle.tta_cores.specs.declared.cores.Core.{Core}
-use Rattle.tta_cores.specs.Network.{Network, Joined, turn}
-use Rattle.tta_cores.specs.Cluster.{cycles}
+use Rattle.tta_net.specs.Cited.{Units, State, Core, Network, Joined, turn, cycles}
 use Rattle.tta_net.specs.declared.turn.Turn.{Turn}
 use Rattle.tta_net.specs.declared.turn.Turn.TheVariants as turn_told
 use Rattle.tta_net.specs.Clusters.{HeldCluster, IsClusterOf, StandsFor, feeds_of, made_by}

@@ -1,17 +1,7 @@
 -- What a turn of one core comes to.
 use Rattle.std.proofs.Common.{◌≡◌, ℕ, ◌+◌, ◌-◌, ◌&&◌, Bool, true, false, List, [], ◌∷◌, length, Option, refl, sym, ap, subst, ◌∙◌, arith}
 use Rattle.std.specs.Prelude.{if◌then◌else◌, is_none}
-use Rattle.tta_list.specs.Input.{IsFed, left}
-use Rattle.tta_ops.specs.Units.{Units}
-use Rattle.tta_arch.specs.Machine.{Machine}
-use Rattle.tta_code.specs.declared.code.Code.{Code}
-use Rattle.tta_code.specs.Cycle.{State, Outcome, Running, Halted, Waiting, Fault, next_of, next}
-use Rattle.tta_flight.specs.Rings.{Rings}
-use Rattle.tta_sim.specs.Results.{Results, units_of}
-use Rattle.tta_sim.specs.Held.{HeldState, StandsWith, is_fault}
-use Rattle.tta_cores.specs.declared.cores.Core.{Core}
-use Rattle.tta_cores.specs.Network.{Joined, stepped}
-use Rattle.tta_cores.specs.Cluster.{is_waiting}
+use Rattle.tta_net.specs.Cited.{IsFed, left, Units, Machine, Code, State, Outcome, Running, Halted, Waiting, Fault, next_of, next, Rings, Results, units_of, HeldState, StandsWith, is_fault, Core, Joined, stepped, is_waiting}
 use Rattle.tta_cores.proofs.Outcomes.{changes}
 use Rattle.tta_net.specs.declared.member.Member.{Member}
 use Rattle.tta_net.specs.declared.turn.Turn.TheVariants as turn

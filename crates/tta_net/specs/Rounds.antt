@@ -2,8 +2,7 @@
 use Rattle.std.specs.Prelude.{◌≡◌, ℕ, zero, suc, ◌+◌, ◌<◌, ◌≤◌, Bool, true, false, List, [], ◌∷◌, ◌++◌, map, replicate, Option, Some}
 use Rattle.std.specs.Option.{option_map_or}
 use Rattle.std.specs.List.{list_any}
-use Rattle.tta_code.specs.Cycle.{State}
-use Rattle.tta_cores.specs.Network.{Network, Joined, turn, interleaved}
+use Rattle.tta_net.specs.Cited.{State, Network, Joined, turn, interleaved}
 use Rattle.tta_net.specs.declared.turn.Turn.{Turn}
 use Rattle.tta_net.specs.declared.turn.Turn.TheVariants as turn_told
 use Rattle.tta_net.specs.Clusters.{told_at}

@@ -3,21 +3,9 @@ use Rattle.std.proofs.Common.{◌≡◌, inl, inr, ⊎_elim, ℕ, ◌+◌, ◌<�
 use Rattle.std.specs.Prelude.{slice_get}
 use Rattle.std.proofs.lemmas.Option.{slice_get_within}
 use Rattle.tta_list.proofs.Lists.{slice_get-push, length_more}
-use Rattle.tta_ports.specs.World.{World, IsUntouched}
+use Rattle.tta_network.specs.Cited.{World, IsUntouched, Units, over, Whole, data_in, Core, CanLoad, CanLoadAll, MachineFile, Status, IsTaken, IsDescribed, IsImageFor, RefusesImage, Fills, RefusesInput, ReadsPair}
 use Rattle.tta_ports.proofs.Worlds.{same_world}
-use Rattle.tta_ops.specs.Units.{Units}
-use Rattle.tta_list.specs.Laid.{over}
-use Rattle.tta_code.specs.Whole.{Whole, data_in}
-use Rattle.tta_cores.specs.declared.cores.Core.{Core}
-use Rattle.tta_net.specs.Loaded.{CanLoad, CanLoadAll}
-use Rattle.tta_given.specs.declared.machine.MachineFile.{MachineFile}
-use Rattle.tta_given.specs.declared.status.Status.{Status}
 use Rattle.tta_given.specs.declared.status.Status.TheVariants as status
-use Rattle.tta_given.specs.Held.{IsTaken}
-use Rattle.tta_given.specs.Machines.{IsDescribed}
-use Rattle.tta_given.specs.Images.{IsImageFor, RefusesImage}
-use Rattle.tta_given.specs.Inputs.{Fills, RefusesInput}
-use Rattle.tta_given.specs.Pairs.{ReadsPair}
 use Rattle.tta_given.proofs.Endings.{pair_held}
 use Rattle.tta_network.specs.CoreFiles.{name_of, word_of, IsCoreFrom, TakesCore, CoreFileFails, CorePairFails, CoreFails, AreCoresFrom, TakesCores, CoresFail}
 

@@ -3,9 +3,7 @@ use Rattle.std.proofs.Common.{◌≡◌, ◌<◌, inl, inr, ℕ, zero, suc, ◌+
 use Rattle.std.proofs.lemmas.Bool.{cases_lt}
 use Rattle.std.proofs.lemmas.List.{drop_more}
 use Rattle.std.proofs.lemmas.Grind.{flat_map-append}
-use Rattle.tta_print.specs.declared.line.Line.{Line}
-use Rattle.tta_print.specs.Lines.{line_text, lines_text, core_lines}
-use Rattle.tta_net.specs.declared.turn.Turn.{Turn}
+use Rattle.tta_network.specs.Cited.{Line, line_text, lines_text, core_lines, Turn}
 use Rattle.tta_network.specs.Net.{turn_line, net_lines, earlier, first_fault}
 
 module _ (output : ℕ → List ℕ) (fault : ℕ → Option (ℕ × ℕ)) where

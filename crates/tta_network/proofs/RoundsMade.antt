@@ -3,23 +3,11 @@ use Rattle.std.proofs.Common.{◌≡◌, ℕ, inl, inr, Bool, true, false, List,
 use Rattle.std.specs.Option.{option_map_or}
 use Rattle.std.proofs.lemmas.Bool.{cases_lt}
 use Rattle.std.proofs.lemmas.Option.{slice_get_past}
-use Rattle.tta_ports.specs.World.{World}
-use Rattle.tta_ports.specs.Output.{Output, IsPut, IsCut}
+use Rattle.tta_network.specs.Cited.{World, Output, IsPut, IsCut, lines_text, Units, State, Core, Network, Joined, joined, AreAtRest, cycles, first_states, Turn, HeldCluster, IsClusterOf, StandsFor, words_of, fault_by, fault_told, output_at, fault_at, after_rounds, HasEnded, Status, IsTaken}
 use Rattle.tta_ports.proofs.Worlds.{same_world}
-use Rattle.tta_print.specs.Lines.{lines_text}
-use Rattle.tta_ops.specs.Units.{Units}
-use Rattle.tta_code.specs.Cycle.{State}
-use Rattle.tta_cores.specs.declared.cores.Core.{Core}
-use Rattle.tta_cores.specs.Network.{Network, Joined, joined, AreAtRest}
-use Rattle.tta_cores.specs.Cluster.{cycles, first_states}
-use Rattle.tta_net.specs.declared.turn.Turn.{Turn}
-use Rattle.tta_net.specs.Clusters.{HeldCluster, IsClusterOf, StandsFor, words_of, fault_by, fault_told, output_at, fault_at}
-use Rattle.tta_net.specs.Rounds.{after_rounds, HasEnded}
 use Rattle.tta_net.proofs.Together.{output_same, fault_same}
 use Rattle.tta_net.proofs.Rest.{rounds_rest}
-use Rattle.tta_given.specs.declared.status.Status.{Status}
 use Rattle.tta_given.specs.declared.status.Status.TheVariants as status
-use Rattle.tta_given.specs.Held.{IsTaken}
 use Rattle.tta_network.specs.CoreFiles.{AreLinks, cores_in, TakesCores}
 use Rattle.tta_network.specs.Net.{net_lines, net_text, first_fault, rounds_status, NetPuts, HasMadeRounds, NetReports, CoresReport, Nets}
 use Rattle.tta_network.proofs.NetLines.{net_same, first_same, none_first}

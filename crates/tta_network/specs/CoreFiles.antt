@@ -1,22 +1,8 @@
 -- The files of a net: the links of its cores, and three for each core: its machine, the image of its code, and the words of its data
 -- space.
 use Rattle.std.specs.Prelude.{◌≡◌, ◌⊎◌, ℕ, ◌+◌, ◌*◌, ◌<◌, ◌/◌, List, [], length, Option, Some, slice_get, slice_index_or, Result, Ok, Err}
-use Rattle.tta_ports.specs.Store.{Store}
-use Rattle.tta_ports.specs.World.{World, IsUntouched}
-use Rattle.tta_ops.specs.Units.{Units}
-use Rattle.tta_list.specs.Laid.{over}
-use Rattle.tta_code.specs.Whole.{Whole, data_in}
-use Rattle.tta_cores.specs.declared.cores.Core.{Core}
-use Rattle.tta_links.specs.Links.{Feeds}
-use Rattle.tta_links.specs.Text.{links_of}
-use Rattle.tta_given.specs.declared.machine.MachineFile.{MachineFile}
-use Rattle.tta_given.specs.declared.status.Status.{Status}
+use Rattle.tta_network.specs.Cited.{Store, World, IsUntouched, Units, over, Whole, data_in, Core, Feeds, links_of, MachineFile, Status, IsHeld, IsTaken, FileFails, IsDescribed, RefusesMachine, HasMachine, IsImageFor, RefusesImage, Fills, RefusesInput, HasPair, ReadsPair}
 use Rattle.tta_given.specs.declared.status.Status.TheVariants as status
-use Rattle.tta_given.specs.Held.{IsHeld, IsTaken, FileFails}
-use Rattle.tta_given.specs.Machines.{IsDescribed, RefusesMachine, HasMachine}
-use Rattle.tta_given.specs.Images.{IsImageFor, RefusesImage}
-use Rattle.tta_given.specs.Inputs.{Fills, RefusesInput}
-use Rattle.tta_given.specs.Pairs.{HasPair, ReadsPair}
 
 -- ---- links
 

@@ -1,3 +1,4 @@
+pub mod Cited
 pub mod Request
 pub mod CoreFiles
 pub mod Net

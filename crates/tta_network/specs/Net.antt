@@ -1,23 +1,10 @@
 -- What the command `net` does: cores that are joined by queues make rounds, and what they have output is printed.
 use Rattle.std.specs.Prelude.{◌≡◌, ◌⊎◌, ℕ, zero, suc, ◌+◌, Bool, true, false, List, [], ◌∷◌, ◌++◌, length, Option, Some, None}
 use Rattle.std.specs.Option.{option_map_or}
-use Rattle.tta_ports.specs.World.{World, IsUntouched}
-use Rattle.tta_ports.specs.Output.{Output, IsQuiet, IsPut, IsCut}
-use Rattle.tta_print.specs.declared.line.Line.{Line}
+use Rattle.tta_network.specs.Cited.{World, IsUntouched, Output, IsQuiet, IsPut, IsCut, Line, lines_text, core_lines, Units, State, Core, Joined, joined, AreAtRest, cycles, first_states, Turn, output_at, fault_at, HasEnded, Status, Held, FileFails}
 use Rattle.tta_print.specs.declared.line.Line.TheVariants as line
-use Rattle.tta_print.specs.Lines.{lines_text, core_lines}
-use Rattle.tta_ops.specs.Units.{Units}
-use Rattle.tta_code.specs.Cycle.{State}
-use Rattle.tta_cores.specs.declared.cores.Core.{Core}
-use Rattle.tta_cores.specs.Network.{Joined, joined, AreAtRest}
-use Rattle.tta_cores.specs.Cluster.{cycles, first_states}
-use Rattle.tta_net.specs.declared.turn.Turn.{Turn}
 use Rattle.tta_net.specs.declared.turn.Turn.TheVariants as turn
-use Rattle.tta_net.specs.Clusters.{output_at, fault_at}
-use Rattle.tta_net.specs.Rounds.{HasEnded}
-use Rattle.tta_given.specs.declared.status.Status.{Status}
 use Rattle.tta_given.specs.declared.status.Status.TheVariants as status
-use Rattle.tta_given.specs.Held.{Held, FileFails}
 use Rattle.tta_network.specs.CoreFiles.{AreLinks, RefusesLinks, cores_in, HasCores, CoresFail}
 
 -- ---- what is printed

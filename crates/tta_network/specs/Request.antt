@@ -1,6 +1,6 @@
 -- What is asked of a net.
 use Rattle.std.specs.Prelude.{ℕ, ◌+◌, ◌%◌, ◌^◌, ◌==◌, ◌&&◌, nat_lt, Bool, List, Option}
-use Rattle.tta_text.specs.Numbers.{digits_of}
+use Rattle.tta_network.specs.Cited.{digits_of}
 
 -- how many rounds a net makes at most: one to seven decimal digits with a value of at most 1,048,576
 abbrev pub rounds_of : List ℕ → Option ℕ

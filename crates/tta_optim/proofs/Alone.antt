@@ -2,13 +2,8 @@
 use Rattle.std.proofs.Common.{◌≡◌, ℕ, Bool, true, false, List, [], ◌∷◌, ◌++◌, Option, Some, None, refl, sym, ap, ◌∙◌}
 use Rattle.std.specs.Prelude.{if◌then◌else◌, ◌&&◌, ◌||◌, not, option_and_then}
 use Rattle.std.specs.Option.{option_map_or, option_to_list}
-use Rattle.tta_ops.specs.Units.{Units}
-use Rattle.tta_arch.specs.declared.ends.Source.{Source}
+use Rattle.tta_optim.specs.Cited.{Units, Source, Machine, Target, Reg, Imm, Operand, Trigger, Control, Effect, Place, KeptReg, KeptImm, KeptOperand, KeptRa, KeptPort, Written, kept, Brought, bring, moved, guard_place, Held, is_waiting, read_held, arrives, does, lacks, does_all, means}
 use Rattle.tta_arch.specs.declared.ends.Source.TheVariants as source
-use Rattle.tta_arch.specs.Machine.{Machine}
-use Rattle.tta_arch.specs.Effects.{Target, Reg, Imm, Operand, Trigger, Control, Effect, Place, KeptReg, KeptImm, KeptOperand, KeptRa, KeptPort, Written, kept, Brought, bring, moved}
-use Rattle.tta_moves.specs.Touches.{guard_place}
-use Rattle.tta_moves.specs.Meaning.{Held, is_waiting, read_held, arrives, does, lacks, does_all, means}
 use Rattle.tta_moves.proofs.Places.{kept_on_both}
 use Rattle.tta_moves.proofs.Steps.{SameReads, step_write, write_at_once, does_same, does_written, same_lacks}
 

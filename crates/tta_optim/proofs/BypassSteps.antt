@@ -8,17 +8,7 @@ use Rattle.std.proofs.lemmas.Option.{slice_get-get_or}
 use Rattle.std.proofs.lemmas.Grind.{common_steps}
 use Rattle.tta_list.proofs.Lists.{list_all_one}
 use Rattle.tta_arch.specs.declared.ends.Source.TheVariants as source
-use Rattle.tta_arch.specs.Machine.{Machine}
-use Rattle.tta_arch.specs.Rules.{IsMachine}
-use Rattle.tta_arch.specs.Effects.{Place, KeptReg}
-use Rattle.tta_moves.specs.declared.items.ItemSource.{ItemSource}
-use Rattle.tta_moves.specs.declared.items.ItemSource.TheVariants.{Port, Address}
-use Rattle.tta_moves.specs.declared.items.Item.{Item}
-use Rattle.tta_moves.specs.declared.items.Item.TheVariants.{Move, Long}
-use Rattle.tta_moves.specs.Touches.{place_of_source}
-use Rattle.tta_moves.specs.Numbers.{is_place}
-use Rattle.tta_moves.specs.Slots.{joined, has_slot}
-use Rattle.tta_moves.specs.Forms.{is_port_source, is_wide_file, shown_in_place_of, port_for}
+use Rattle.tta_optim.specs.Cited.{Machine, IsMachine, Place, KeptReg, ItemSource, Port, Address, Item, Move, Long, place_of_source, is_place, joined, has_slot, is_port_source, is_wide_file, shown_in_place_of, port_for}
 use Rattle.tta_moves.proofs.InRange.{InRange, in_range}
 use Rattle.tta_optim.specs.declared.notes.Note.{Note}
 use Rattle.tta_optim.specs.Notes.{blank, noted, shown_by, bypassed_by}

@@ -4,20 +4,8 @@ use Rattle.std.specs.Prelude.{if◌then◌else◌, ◌==◌, ◌&&◌, ◌||◌,
 use Rattle.std.specs.Option.{option_map_or}
 use Rattle.std.proofs.lemmas.Bool.{and_from}
 use Rattle.std.proofs.lemmas.Bool.Decides.{nat_tests}
-use Rattle.tta_ops.specs.Units.{Units}
-use Rattle.tta_arch.specs.declared.ends.Source.{Source}
+use Rattle.tta_optim.specs.Cited.{Units, Source, File, Machine, Effect, KeptReg, Written, kept, is_active, bring, lacks_operand, start_of, has_unset_guard, Brought, ItemSource, Port, Address, Item, Move, Long, source_of, joined, Held, is_waiting, linked, effect_of, read_held, arrives, does, lacks, does_all, means, copied, is_port_source, is_wide_file, shown_in_place_of, port_for, is_bypassable, none_after}
 use Rattle.tta_arch.specs.declared.ends.Source.TheVariants as source
-use Rattle.tta_arch.specs.declared.parts.File.{File}
-use Rattle.tta_arch.specs.Machine.{Machine}
-use Rattle.tta_arch.specs.Effects.{Effect, KeptReg, Written, kept, is_active, bring, lacks_operand, start_of, has_unset_guard, Brought}
-use Rattle.tta_moves.specs.declared.items.ItemSource.{ItemSource}
-use Rattle.tta_moves.specs.declared.items.ItemSource.TheVariants.{Port, Address}
-use Rattle.tta_moves.specs.declared.items.Item.{Item}
-use Rattle.tta_moves.specs.declared.items.Item.TheVariants.{Move, Long}
-use Rattle.tta_moves.specs.Touches.{source_of}
-use Rattle.tta_moves.specs.Slots.{joined}
-use Rattle.tta_moves.specs.Meaning.{Held, is_waiting, linked, effect_of, read_held, arrives, does, lacks, does_all, means}
-use Rattle.tta_moves.specs.Forms.{copied, is_port_source, is_wide_file, shown_in_place_of, port_for, is_bypassable, none_after}
 use Rattle.tta_moves.proofs.Places.{either}
 use Rattle.tta_optim.specs.Passes.{with_source, bypassed, bypass_items}
 use Rattle.tta_optim.proofs.Copies.{is_whole, Copies, one_more, stuck_means, first_means}

@@ -3,19 +3,8 @@ use Rattle.std.proofs.Common.{◌≡◌, ℕ, Bool, true, false, List, [], ◌�
 use Rattle.std.specs.Prelude.{if◌then◌else◌, ◌==◌, ◌||◌, ◌%◌, not, is_none}
 use Rattle.std.specs.Option.{option_map_or, option_to_list}
 use Rattle.std.proofs.lemmas.Bool.{or_parts, and_parts, not-true}
-use Rattle.tta_ops.specs.Units.{Units}
-use Rattle.tta_arch.specs.declared.ends.GuardRef.{GuardRef}
-use Rattle.tta_arch.specs.declared.ends.Source.{Source}
+use Rattle.tta_optim.specs.Cited.{Units, GuardRef, Source, Machine, Target, Reg, Imm, Operand, Trigger, Control, Jumps, Calls, Halts, Effect, Place, KeptReg, KeptImm, KeptOperand, KeptRa, KeptPort, same_place, Written, kept, width_of, is_active, bring, has_unset, has_unset_guard, op_at, has_result, UnitOp, ItemSource, Port, Address, Item, guard_of, source_of, target_of_item, place_of, place_of_source, place_written, is_at, writes, Held, is_waiting, linked, effect_of, read_held, does, lacks, means, sure_source, unless_written, copied}
 use Rattle.tta_arch.specs.declared.ends.Source.TheVariants as source
-use Rattle.tta_arch.specs.Machine.{Machine}
-use Rattle.tta_arch.specs.Effects.{Target, Reg, Imm, Operand, Trigger, Control, Jumps, Calls, Halts, Effect, Place, KeptReg, KeptImm, KeptOperand, KeptRa, KeptPort, same_place, Written, kept, width_of, is_active, bring, has_unset, has_unset_guard, op_at, has_result}
-use Rattle.tta_arch.specs.declared.parts.UnitOp.{UnitOp}
-use Rattle.tta_moves.specs.declared.items.ItemSource.{ItemSource}
-use Rattle.tta_moves.specs.declared.items.ItemSource.TheVariants.{Port, Address}
-use Rattle.tta_moves.specs.declared.items.Item.{Item}
-use Rattle.tta_moves.specs.Touches.{guard_of, source_of, target_of_item, place_of, place_of_source, place_written, is_at, writes}
-use Rattle.tta_moves.specs.Meaning.{Held, is_waiting, linked, effect_of, read_held, does, lacks, means}
-use Rattle.tta_moves.specs.Forms.{sure_source, unless_written, copied}
 use Rattle.tta_moves.proofs.Places.{same_self}
 use Rattle.tta_moves.proofs.Steps.{write_at_once, step_write, does_written, kept_other}
 use Rattle.tta_arch.proofs.Places.{same_is}

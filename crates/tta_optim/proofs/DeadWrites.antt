@@ -3,19 +3,8 @@ use Rattle.std.proofs.Common.{◌≡◌, ℕ, Bool, true, false, List, [], ◌�
 use Rattle.std.specs.Prelude.{if◌then◌else◌, ◌%◌, ◌==◌, ◌&&◌, ◌||◌, not, is_none, map}
 use Rattle.std.specs.Option.{option_map_or, option_to_list}
 use Rattle.std.proofs.lemmas.Bool.{and_from, and_parts, or_left, or_right, not-true}
-use Rattle.tta_ops.specs.Units.{Units}
-use Rattle.tta_arch.specs.declared.ends.GuardRef.{GuardRef}
+use Rattle.tta_optim.specs.Cited.{Units, GuardRef, Machine, UnitOp, Target, Reg, Imm, Operand, Trigger, Control, Jumps, Calls, Halts, op_at, has_result, Effect, Place, KeptReg, KeptImm, KeptOperand, KeptRa, KeptPort, same_place, Written, kept, width_of, ItemSource, Port, Address, Item, guard_of, source_of, target_of_item, place_of_source, place_written, is_at, guard_place, reads, writes, is_unguarded, Held, is_waiting, linked, effect_of, read_held, does, lacks, does_all, means, lives, is_wanted, register_of, is_dead, is_lively}
 use Rattle.tta_arch.specs.declared.ends.Source.TheVariants as source
-use Rattle.tta_arch.specs.Machine.{Machine}
-use Rattle.tta_arch.specs.declared.parts.UnitOp.{UnitOp}
-use Rattle.tta_arch.specs.Effects.{Target, Reg, Imm, Operand, Trigger, Control, Jumps, Calls, Halts, op_at, has_result, Effect, Place, KeptReg, KeptImm, KeptOperand, KeptRa, KeptPort, same_place, Written, kept, width_of}
-use Rattle.tta_moves.specs.declared.items.ItemSource.{ItemSource}
-use Rattle.tta_moves.specs.declared.items.ItemSource.TheVariants.{Port, Address}
-use Rattle.tta_moves.specs.declared.items.Item.{Item}
-use Rattle.tta_moves.specs.Touches.{guard_of, source_of, target_of_item, place_of_source, place_written, is_at, guard_place, reads, writes, is_unguarded}
-use Rattle.tta_moves.specs.Meaning.{Held, is_waiting, linked, effect_of, read_held, does, lacks, does_all, means}
-use Rattle.tta_moves.specs.Runs.{lives}
-use Rattle.tta_moves.specs.Forms.{is_wanted, register_of, is_dead, is_lively}
 use Rattle.tta_moves.proofs.Places.{either, same_self, kept_on_both, kept_there}
 use Rattle.tta_moves.proofs.Steps.{SameReads, step_write, write_at_once, does_same, does_written, same_lacks, kept_other}
 use Rattle.tta_optim.specs.Passes.{dead_items}

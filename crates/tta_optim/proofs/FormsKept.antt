@@ -4,18 +4,9 @@ use Rattle.std.specs.Prelude.{if◌then◌else◌, ◌&&◌, ◌||◌, not, is_s
 use Rattle.std.specs.Option.{option_map_or}
 use Rattle.std.specs.List.{list_any}
 use Rattle.std.proofs.lemmas.Bool.{and_from, and_parts, or_left, or_right}
-use Rattle.tta_arch.specs.declared.ends.GuardRef.{GuardRef}
+use Rattle.tta_optim.specs.Cited.{GuardRef, Machine, Place, KeptReg, KeptOperand, KeptPort, same_place, ItemSource, Port, Address, Item, Move, Long, source_of, target_of_item, place_of_source, is_at, reads, writes, is_unguarded, joined, none_after, sure_source, unless_written, copied, is_port_source, is_wide_file, shown_in_place_of, is_bypassable, same_source, is_redundant, is_wanted, is_dead, is_passing, trail, is_detour, is_straight}
 use Rattle.tta_arch.specs.declared.ends.Source.TheVariants as source
 use Rattle.tta_arch.specs.declared.ends.Dest.TheVariants as dest
-use Rattle.tta_arch.specs.Machine.{Machine}
-use Rattle.tta_arch.specs.Effects.{Place, KeptReg, KeptOperand, KeptPort, same_place}
-use Rattle.tta_moves.specs.declared.items.ItemSource.{ItemSource}
-use Rattle.tta_moves.specs.declared.items.ItemSource.TheVariants.{Port, Address}
-use Rattle.tta_moves.specs.declared.items.Item.{Item}
-use Rattle.tta_moves.specs.declared.items.Item.TheVariants.{Move, Long}
-use Rattle.tta_moves.specs.Touches.{source_of, target_of_item, place_of_source, is_at, reads, writes, is_unguarded}
-use Rattle.tta_moves.specs.Slots.{joined}
-use Rattle.tta_moves.specs.Forms.{none_after, sure_source, unless_written, copied, is_port_source, is_wide_file, shown_in_place_of, is_bypassable, same_source, is_redundant, is_wanted, is_dead, is_passing, trail, is_detour, is_straight}
 use Rattle.tta_moves.proofs.Places.{either, same_self}
 use Rattle.tta_optim.specs.Passes.{dead_items}
 use Rattle.tta_optim.proofs.Bypassing.{port_is}

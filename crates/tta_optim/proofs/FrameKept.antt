@@ -2,12 +2,7 @@
 use Rattle.std.proofs.Common.{◌≡◌, ℕ, Bool, true, false, List, [], ◌∷◌, length, Option, Some, None, refl, ◌∙◌, length-set}
 use Rattle.std.specs.Prelude.{if◌then◌else◌, fold}
 use Rattle.std.specs.Option.{option_map_or, option_to_list}
-use Rattle.tta_ops.specs.Units.{Units}
-use Rattle.tta_arch.specs.declared.parts.Op.{Op}
-use Rattle.tta_arch.specs.declared.parts.Op.TheVariants.{Ldw, Stw, Ldf, Stf, Out, Take, Set}
-use Rattle.tta_arch.specs.Machine.{Machine}
-use Rattle.tta_arch.specs.Effects.{Effect, moved, bring, Start, start_of, operand_word, store_frame}
-use Rattle.tta_moves.specs.Meaning.{Waits, is_waiting, Held, read_held, acts, waits_for, arrives, does, does_all}
+use Rattle.tta_optim.specs.Cited.{Units, Op, Ldw, Stw, Ldf, Stf, Out, Take, Set, Machine, Effect, moved, bring, Start, start_of, operand_word, store_frame, Waits, is_waiting, Held, read_held, acts, waits_for, arrives, does, does_all}
 
 pub store_long : (w : List ℕ) (s : Start) (o : Op) → s.does.op ≡ o → length (store_frame w s) ≡ length w
 store_long w s Ldw is = rw is refl

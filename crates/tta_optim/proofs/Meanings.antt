@@ -1,10 +1,6 @@
 -- Each pass keeps the meaning of a list, and so do all three.
 use Rattle.std.proofs.Common.{◌≡◌, ℕ, true, false, List, [], refl, sym, ap, subst, ◌∙◌}
-use Rattle.tta_arch.specs.Machine.{Machine}
-use Rattle.tta_arch.specs.Effects.{Place, Written, kept}
-use Rattle.tta_moves.specs.declared.items.Item.{Item}
-use Rattle.tta_moves.specs.Meaning.{Held, is_waiting}
-use Rattle.tta_moves.specs.Runs.{lives}
+use Rattle.tta_optim.specs.Cited.{Machine, Place, Written, kept, Item, Held, is_waiting, lives}
 use Rattle.tta_optim.specs.Kept.{Alike, KeepsMeaning, KeepsFramed}
 use Rattle.tta_optim.specs.Passes.{bypass_items, share_items, dead_items, optimise_items}
 use Rattle.tta_optim.proofs.Copies.{none_yet}

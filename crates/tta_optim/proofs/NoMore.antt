@@ -1,8 +1,6 @@
 -- What each pass and all three make of a list does no more than the list.
 use Rattle.std.proofs.Common.{◌≡◌, ℕ, true, List, [], Option, arith, ◌∙◌}
-use Rattle.tta_arch.specs.Machine.{Machine}
-use Rattle.tta_moves.specs.declared.items.Item.{Item}
-use Rattle.tta_moves.specs.Forms.{is_straight, is_bypassed, is_shared, is_lively}
+use Rattle.tta_optim.specs.Cited.{Machine, Item, is_straight, is_bypassed, is_shared, is_lively}
 use Rattle.tta_optim.specs.Kept.{DoesNoMore}
 use Rattle.tta_optim.specs.Passes.{bypass_items, share_items, dead_items, optimise_items}
 use Rattle.tta_optim.proofs.Shorter.{Shorter, bypass_shorter, share_shorter, dead_shorter, shorter_length, shorter_list, shorter_triggers, shorter_targets, shorter_addresses}

@@ -5,14 +5,7 @@ use Rattle.std.specs.Option.{option_map_or}
 use Rattle.std.proofs.lemmas.Bool.{le-leb, lt-leb}
 use Rattle.std.proofs.lemmas.List.{get_or-replicate, length-replicate, length-set}
 use Rattle.std.proofs.lemmas.Option.{slice_get-get_or}
-use Rattle.tta_arch.specs.declared.ends.GuardRef.{GuardRef}
-use Rattle.tta_arch.specs.Machine.{Machine}
-use Rattle.tta_arch.specs.Effects.{Place, same_place}
-use Rattle.tta_moves.specs.declared.items.ItemSource.{ItemSource}
-use Rattle.tta_moves.specs.declared.items.Item.{Item}
-use Rattle.tta_moves.specs.Touches.{guard_of, source_of, target_of_item, place_of_source, place_written, writes, is_at}
-use Rattle.tta_moves.specs.Numbers.{place_number, is_place}
-use Rattle.tta_moves.specs.Forms.{sure_source, unless_written, copied}
+use Rattle.tta_optim.specs.Cited.{GuardRef, Machine, Place, same_place, ItemSource, Item, guard_of, source_of, target_of_item, place_of_source, place_written, writes, is_at, place_number, is_place, sure_source, unless_written, copied}
 use Rattle.tta_moves.proofs.Places.{either}
 use Rattle.tta_moves.proofs.InRange.{one_place, number_below, InRange}
 use Rattle.tta_optim.specs.declared.notes.Note.{Note}

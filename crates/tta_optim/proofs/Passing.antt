@@ -1,8 +1,6 @@
 -- The three passes, one after another.
 use Rattle.std.proofs.Common.{◌≡◌, ℕ, List, [], ap, ◌∙◌}
-use Rattle.tta_arch.specs.Machine.{Machine}
-use Rattle.tta_moves.specs.declared.items.Item.{Item}
-use Rattle.tta_moves.specs.declared.items.BlockList.{BlockList}
+use Rattle.tta_optim.specs.Cited.{Machine, Item, BlockList}
 use Rattle.tta_optim.specs.declared.together.Passed.{Passed}
 use Rattle.tta_optim.specs.Passes.{share_items, dead_items, optimise_items}
 use Rattle.tta_optim.specs.Passed.{with_items, IsPassed}

@@ -2,13 +2,7 @@
 use Rattle.std.proofs.Common.{◌≡◌, ◌≢◌, ℕ, ◌+◌, Bool, true, false, List, [], ◌∷◌, length, Option, None, refl, sym, ap, subst, ◌∙◌}
 use Rattle.std.proofs.lemmas.List.{length-replicate}
 use Rattle.std.specs.Prelude.{if◌then◌else◌, filter, map, slice_index}
-use Rattle.tta_ops.specs.Units.{Units}
-use Rattle.tta_arch.specs.Machine.{Machine}
-use Rattle.tta_arch.specs.Effects.{Place, same_place, Written, kept}
-use Rattle.tta_moves.specs.declared.items.BlockList.{BlockList}
-use Rattle.tta_moves.specs.Meaning.{Exit, Next, Leaves, Waits, is_waiting, Held, effect_of, do_items, has_meaning}
-use Rattle.tta_list.specs.Legs.{ToWait, ToNowhere}
-use Rattle.tta_moves.specs.Runs.{lives, restart, leave_of, go_list, begin}
+use Rattle.tta_optim.specs.Cited.{Units, Machine, Place, same_place, Written, kept, BlockList, Exit, Next, Leaves, Waits, is_waiting, Held, effect_of, do_items, has_meaning, ToWait, ToNowhere, lives, restart, leave_of, go_list, begin}
 use Rattle.tta_moves.proofs.Places.{either}
 use Rattle.tta_moves.proofs.LegsKept.{LeaveAlike, legs_alike}
 use Rattle.tta_optim.specs.Kept.{StandsFor, KeepsRuns}

@@ -5,15 +5,7 @@ use Rattle.std.specs.Option.{option_map_or}
 use Rattle.std.specs.List.{list_any}
 use Rattle.std.proofs.lemmas.Bool.{and_from, and_parts, or_parts, or_from, not-true, not_from_false}
 use Rattle.tta_arch.specs.declared.ends.Source.TheVariants as source
-use Rattle.tta_arch.specs.Machine.{Machine}
-use Rattle.tta_arch.specs.Effects.{Operand, Place, KeptReg, KeptImm, KeptOperand, KeptRa, KeptPort, same_place}
-use Rattle.tta_moves.specs.declared.items.ItemSource.{ItemSource}
-use Rattle.tta_moves.specs.declared.items.ItemSource.TheVariants.{Port, Address}
-use Rattle.tta_moves.specs.declared.items.Item.{Item}
-use Rattle.tta_moves.specs.declared.items.Item.TheVariants.{Move, Long}
-use Rattle.tta_moves.specs.Touches.{source_of, target_of_item, place_of_source, writes, is_unguarded}
-use Rattle.tta_moves.specs.Slots.{joined}
-use Rattle.tta_moves.specs.Forms.{none_after, sure_source, unless_written, copied, is_port_source, is_wide_file, shown_in_place_of, port_for, is_bypassable, is_redundant, is_passing, trail, is_detour, is_straight}
+use Rattle.tta_optim.specs.Cited.{Machine, Operand, Place, KeptReg, KeptImm, KeptOperand, KeptRa, KeptPort, same_place, ItemSource, Port, Address, Item, Move, Long, source_of, target_of_item, place_of_source, writes, is_unguarded, joined, none_after, sure_source, unless_written, copied, is_port_source, is_wide_file, shown_in_place_of, port_for, is_bypassable, is_redundant, is_passing, trail, is_detour, is_straight}
 use Rattle.tta_moves.proofs.Places.{either}
 use Rattle.tta_optim.specs.Passes.{with_source, bypassed, bypass_items, share_items}
 use Rattle.tta_optim.proofs.Bypassing.{port_is}

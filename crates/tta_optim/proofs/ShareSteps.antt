@@ -7,14 +7,7 @@ use Rattle.std.proofs.lemmas.List.{reverse-append, length-reverse, append-nil, d
 use Rattle.std.proofs.lemmas.Option.{slice_get-get_or}
 use Rattle.tta_list.proofs.Lists.{list_all_one}
 use Rattle.tta_arch.specs.declared.ends.Dest.TheVariants as dest
-use Rattle.tta_arch.specs.Machine.{Machine}
-use Rattle.tta_arch.specs.Rules.{IsMachine}
-use Rattle.tta_arch.specs.Effects.{KeptOperand}
-use Rattle.tta_moves.specs.declared.items.ItemSource.{ItemSource}
-use Rattle.tta_moves.specs.declared.items.Item.{Item}
-use Rattle.tta_moves.specs.declared.items.Item.TheVariants.{Move, Long}
-use Rattle.tta_moves.specs.Slots.{has_slot}
-use Rattle.tta_moves.specs.Forms.{same_source, is_redundant}
+use Rattle.tta_optim.specs.Cited.{Machine, IsMachine, KeptOperand, ItemSource, Item, Move, Long, has_slot, same_source, is_redundant}
 use Rattle.tta_moves.proofs.InRange.{InRange, in_range}
 use Rattle.tta_optim.specs.declared.notes.Note.{Note}
 use Rattle.tta_optim.specs.Notes.{blank, noted, redundant_by}

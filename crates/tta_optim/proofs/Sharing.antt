@@ -4,18 +4,9 @@ use Rattle.std.specs.Prelude.{if◌then◌else◌, ◌||◌, not, option_and_the
 use Rattle.std.specs.Option.{option_map_or, option_to_list}
 use Rattle.std.proofs.lemmas.Bool.{and_from}
 use Rattle.std.proofs.lemmas.Bool.Decides.{nat_tests}
-use Rattle.tta_ops.specs.Units.{Units}
-use Rattle.tta_arch.specs.declared.ends.GuardRef.{GuardRef}
+use Rattle.tta_optim.specs.Cited.{Units, GuardRef, Machine, Target, Operand, Effect, Place, KeptOperand, same_place, Written, kept, bring, is_active, ItemSource, Port, Address, Item, Move, Long, Held, is_waiting, linked, effect_of, read_held, does, lacks, does_all, means, copied, same_source, is_redundant, none_after}
 use Rattle.tta_arch.specs.declared.ends.Source.TheVariants as source
 use Rattle.tta_arch.specs.declared.ends.Dest.TheVariants as dest
-use Rattle.tta_arch.specs.Machine.{Machine}
-use Rattle.tta_arch.specs.Effects.{Target, Operand, Effect, Place, KeptOperand, same_place, Written, kept, bring, is_active}
-use Rattle.tta_moves.specs.declared.items.ItemSource.{ItemSource}
-use Rattle.tta_moves.specs.declared.items.ItemSource.TheVariants.{Port, Address}
-use Rattle.tta_moves.specs.declared.items.Item.{Item}
-use Rattle.tta_moves.specs.declared.items.Item.TheVariants.{Move, Long}
-use Rattle.tta_moves.specs.Meaning.{Held, is_waiting, linked, effect_of, read_held, does, lacks, does_all, means}
-use Rattle.tta_moves.specs.Forms.{copied, same_source, is_redundant, none_after}
 use Rattle.tta_moves.proofs.Places.{either}
 use Rattle.tta_moves.proofs.Steps.{step_write, write_at_once, does_same, same_lacks}
 use Rattle.tta_optim.specs.Passes.{share_items}

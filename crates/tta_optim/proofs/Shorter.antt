@@ -6,16 +6,7 @@ use Rattle.std.specs.List.{list_all, list_any, filter_map, cons_option}
 use Rattle.std.proofs.lemmas.Bool.{and_from, and_parts, or_right, leb-true, le-leb}
 use Rattle.std.proofs.lemmas.List.Sums.{sum_by-cons}
 use Rattle.std.proofs.lemmas.Bool.Decides.{nat_tests}
-use Rattle.tta_arch.specs.declared.ends.GuardRef.{GuardRef}
-use Rattle.tta_arch.specs.Machine.{Machine}
-use Rattle.tta_arch.specs.Effects.{Target, Reg, Imm, Operand, Trigger, Control}
-use Rattle.tta_moves.specs.declared.items.ItemSource.{ItemSource}
-use Rattle.tta_moves.specs.declared.items.ItemSource.TheVariants.{Port, Address}
-use Rattle.tta_moves.specs.declared.items.Item.{Item}
-use Rattle.tta_moves.specs.declared.items.Item.TheVariants.{Move, Long}
-use Rattle.tta_moves.specs.Touches.{guard_of, source_of, target_of_item, is_control, controls}
-use Rattle.tta_moves.specs.Slots.{joined, has_slot, control_is_last, is_list}
-use Rattle.tta_moves.specs.Forms.{is_port_source, shown_in_place_of, port_for, is_redundant, is_dead}
+use Rattle.tta_optim.specs.Cited.{GuardRef, Machine, Target, Reg, Imm, Operand, Trigger, Control, ItemSource, Port, Address, Item, Move, Long, guard_of, source_of, target_of_item, is_control, controls, joined, has_slot, control_is_last, is_list, is_port_source, shown_in_place_of, port_for, is_redundant, is_dead}
 use Rattle.tta_moves.proofs.Places.{either}
 use Rattle.tta_optim.specs.Kept.{triggered, trigger_of, is_address, names}
 use Rattle.tta_optim.specs.Passes.{with_source, bypassed, bypass_items, share_items, dead_items}

@@ -3,9 +3,7 @@ use Rattle.std.proofs.Common.{◌≡◌, true, List, length}
 use Rattle.std.specs.Prelude.{◌&&◌, nat_le}
 use Rattle.std.specs.List.{list_all}
 use Rattle.std.proofs.lemmas.Bool.{and_parts}
-use Rattle.tta_arch.specs.Machine.{Machine}
-use Rattle.tta_moves.specs.declared.items.Item.{Item}
-use Rattle.tta_moves.specs.Slots.{has_slot, control_is_last, is_list}
+use Rattle.tta_optim.specs.Cited.{Machine, Item, has_slot, control_is_last, is_list}
 
 pub slotted : (m : Machine) (items : List Item) → is_list m items ≡ true → list_all (has_slot m) items ≡ true
 slotted m items h =

@@ -1,9 +1,6 @@
 -- Lists that may be placed for others: a list itself, what the passes make of it, and what may be placed for such a list.
 use Rattle.std.proofs.Common.{ℕ, List, refl, subst, ◌∙◌, arith}
-use Rattle.tta_arch.specs.Machine.{Machine}
-use Rattle.tta_connect.specs.Coverage.{hub_of}
-use Rattle.tta_moves.specs.declared.items.Item.{Item}
-use Rattle.tta_moves.specs.declared.items.BlockList.{BlockList}
+use Rattle.tta_optim.specs.Cited.{Machine, hub_of, Item, BlockList}
 use Rattle.tta_optim.specs.Kept.{KeepsMeaning, KeepsFramed, DoesNoMore, AsksNoMore, IsStandIn, aim_of}
 use Rattle.tta_optim.specs.Passes.{optimise_items}
 use Rattle.tta_optim.proofs.Meanings.{framed_of, framed_next, optimise_meaning}

@@ -7,16 +7,7 @@ use Rattle.std.proofs.lemmas.Bool.{and_parts}
 use Rattle.std.proofs.lemmas.Bool.Decides.{nat_tests}
 use Rattle.std.proofs.lemmas.List.{reverse-reverse, reverse-append, drop_all, get_or-replicate, length-replicate}
 use Rattle.std.proofs.lemmas.Option.{slice_get-get_or}
-use Rattle.tta_arch.specs.declared.ends.GuardRef.{GuardRef}
-use Rattle.tta_arch.specs.Machine.{Machine}
-use Rattle.tta_arch.specs.Rules.{IsMachine}
-use Rattle.tta_arch.specs.Effects.{Place, KeptReg, KeptImm, KeptOperand, KeptRa, KeptPort, same_place}
-use Rattle.tta_moves.specs.declared.items.Item.{Item}
-use Rattle.tta_moves.specs.Touches.{guard_of, source_of, target_of_item, guard_place, place_of_source, place_written, is_at, writes, is_unguarded}
-use Rattle.tta_moves.specs.Numbers.{place_number, is_place}
-use Rattle.tta_moves.specs.Slots.{has_slot}
-use Rattle.tta_moves.specs.Runs.{lives}
-use Rattle.tta_moves.specs.Forms.{register_of, is_wanted, is_dead}
+use Rattle.tta_optim.specs.Cited.{GuardRef, Machine, IsMachine, Place, KeptReg, KeptImm, KeptOperand, KeptRa, KeptPort, same_place, Item, guard_of, source_of, target_of_item, guard_place, place_of_source, place_written, is_at, writes, is_unguarded, place_number, is_place, has_slot, lives, register_of, is_wanted, is_dead}
 use Rattle.tta_moves.proofs.Places.{either}
 use Rattle.tta_moves.proofs.InRange.{one_place, number_below, InRange}
 use Rattle.tta_optim.specs.Notes.{wanted_at, dead_by, set_wanted, wanted_before, wanted_behind}

@@ -2,22 +2,7 @@
 use Rattle.std.specs.Prelude.{◌≡◌, ◌≢◌, ℕ, ◌≤◌, ◌==◌, Bool, true, false, ◌&&◌, nat_lt, List, length, count_by, Option, Some, None, option_map}
 use Rattle.std.specs.Option.{option_map_or}
 use Rattle.std.specs.List.{list_any, filter_map}
-use Rattle.tta_ops.specs.Units.{Units}
-use Rattle.tta_arch.specs.declared.ends.GuardRef.{GuardRef}
-use Rattle.tta_arch.specs.declared.parts.Op.{Op}
-use Rattle.tta_arch.specs.Machine.{Machine}
-use Rattle.tta_arch.specs.Effects.{Target, Reg, Imm, Operand, Trigger, Control, Kind, Place, kept, op_at}
-use Rattle.tta_connect.specs.Coverage.{hub_of}
-use Rattle.tta_moves.specs.declared.items.ItemSource.{ItemSource}
-use Rattle.tta_moves.specs.declared.items.ItemSource.TheVariants.{Port, Address}
-use Rattle.tta_moves.specs.declared.items.Item.{Item}
-use Rattle.tta_moves.specs.Touches.{guard_of, source_of, target_of_item}
-use Rattle.tta_moves.specs.Meaning.{Held, is_waiting, do_items, has_meaning}
-use Rattle.tta_moves.specs.declared.items.BlockList.{BlockList}
-use Rattle.tta_list.specs.Legs.{Run, Undefined, AllPairs}
-use Rattle.tta_moves.specs.Runs.{lives, lrun}
-use Rattle.tta_moves.specs.Slots.{is_list}
-use Rattle.tta_moves.specs.Forms.{is_straight}
+use Rattle.tta_optim.specs.Cited.{Units, GuardRef, Op, Machine, Target, Reg, Imm, Operand, Trigger, Control, Kind, Place, kept, op_at, hub_of, ItemSource, Port, Address, Item, guard_of, source_of, target_of_item, Held, is_waiting, do_items, has_meaning, BlockList, Run, Undefined, AllPairs, lives, lrun, is_list, is_straight}
 
 -- Two states are alike for what comes after a list: the spaces, the rest of the input, what was output and how the list
 -- goes on are equal, and so are, unless it waits, the return address and the registers that are read after it.

@@ -2,20 +2,9 @@
 use Rattle.std.specs.Prelude.{◌≡◌, ◌<◌, ◌==◌, ℕ, Bool, true, false, not, ◌&&◌, nat_le, nat_lt, if◌then◌else◌, List, [], ◌∷◌, length, Option, Some, None, option_map, option_and_then, slice_get, slice_set}
 use Rattle.std.specs.Option.{option_map_or}
 use Rattle.std.specs.List.{list_all}
-use Rattle.tta_arch.specs.declared.ends.GuardRef.{GuardRef}
+use Rattle.tta_optim.specs.Cited.{GuardRef, Dest, Machine, KeptReg, KeptOperand, ItemSource, Port, Item, Move, Long, guard_of, source_of, target_of_item, guard_place, place_of_source, place_written, is_unguarded, place_number, sure_source, is_port_source, is_wide_file, same_source, register_of, joined}
 use Rattle.tta_arch.specs.declared.ends.Source.TheVariants as source
-use Rattle.tta_arch.specs.declared.ends.Dest.{Dest}
 use Rattle.tta_arch.specs.declared.ends.Dest.TheVariants as dest
-use Rattle.tta_arch.specs.Machine.{Machine}
-use Rattle.tta_arch.specs.Effects.{KeptReg, KeptOperand}
-use Rattle.tta_moves.specs.declared.items.ItemSource.{ItemSource}
-use Rattle.tta_moves.specs.declared.items.ItemSource.TheVariants.{Port}
-use Rattle.tta_moves.specs.declared.items.Item.{Item}
-use Rattle.tta_moves.specs.declared.items.Item.TheVariants.{Move, Long}
-use Rattle.tta_moves.specs.Touches.{guard_of, source_of, target_of_item, guard_place, place_of_source, place_written, is_unguarded}
-use Rattle.tta_moves.specs.Numbers.{place_number}
-use Rattle.tta_moves.specs.Forms.{sure_source, is_port_source, is_wide_file, same_source, register_of}
-use Rattle.tta_moves.specs.Slots.{joined}
 use Rattle.tta_optim.specs.declared.notes.Note.{Note}
 use Rattle.tta_optim.specs.declared.notes.Entry.{Entry}
 

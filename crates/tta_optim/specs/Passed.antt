@@ -1,8 +1,6 @@
 -- What the three passes make of a list, one after another.
 use Rattle.std.specs.Prelude.{◌≡◌, List, []}
-use Rattle.tta_arch.specs.Machine.{Machine}
-use Rattle.tta_moves.specs.declared.items.Item.{Item}
-use Rattle.tta_moves.specs.declared.items.BlockList.{BlockList}
+use Rattle.tta_optim.specs.Cited.{Machine, Item, BlockList}
 use Rattle.tta_optim.specs.declared.together.Passed.{Passed}
 use Rattle.tta_optim.specs.Passes.{bypass_items, share_items, dead_items}
 

@@ -1,11 +1,7 @@
 -- What each pass makes of a list, item by item.
 use Rattle.std.specs.Prelude.{ℕ, if◌then◌else◌, List, [], ◌∷◌}
 use Rattle.std.specs.Option.{option_map_or}
-use Rattle.tta_arch.specs.Machine.{Machine}
-use Rattle.tta_moves.specs.declared.items.ItemSource.{ItemSource}
-use Rattle.tta_moves.specs.declared.items.Item.{Item}
-use Rattle.tta_moves.specs.declared.items.Item.TheVariants.{Move, Long}
-use Rattle.tta_moves.specs.Forms.{port_for, is_redundant, is_dead}
+use Rattle.tta_optim.specs.Cited.{Machine, ItemSource, Item, Move, Long, port_for, is_redundant, is_dead}
 
 -- a move with another source
 abbrev pub with_source : Item → ItemSource → Item

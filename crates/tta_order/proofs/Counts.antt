@@ -4,12 +4,7 @@ use Rattle.std.specs.Prelude.{cond, ◌&&◌, ◌||◌, nat_le, length, replicat
 use Rattle.std.specs.List.{list_all, list_any}
 use Rattle.std.proofs.lemmas.Bool.{and_from, and_parts, or_left, or_right, leb-true, le-leb}
 use Rattle.std.proofs.lemmas.List.Sums.{sum_by-cons}
-use Rattle.tta_arch.specs.Machine.{Machine}
-use Rattle.tta_moves.specs.declared.items.Item.{Item}
-use Rattle.tta_moves.specs.Touches.{target_of_item}
-use Rattle.tta_moves.specs.Slots.{has_slot, control_is_last, is_list}
-use Rattle.tta_connect.specs.Coverage.{hub_of}
-use Rattle.tta_optim.specs.Kept.{names, aim_of, AsksNoMore}
+use Rattle.tta_order.specs.Cited.{Machine, Item, target_of_item, has_slot, control_is_last, is_list, hub_of, names, aim_of, AsksNoMore}
 use Rattle.tta_order.specs.Channels.{Division}
 use Rattle.tta_order.specs.Orders.{Numbered, bare, AreDrawn, AreUnmarked, IsOrder}
 use Rattle.tta_order.proofs.Straight.{straight_keeps}

@@ -2,10 +2,7 @@
 use Rattle.std.proofs.Common.{◌≡◌, ℕ, zero, suc, ◌≤◌, true, false, List, [], ◌∷◌, Some, None, refl, ap, subst, arith, ◌∙◌}
 use Rattle.std.specs.Prelude.{not, ◌||◌, map, length, slice_get}
 use Rattle.std.proofs.lemmas.Bool.{and_parts, not-true}
-use Rattle.tta_ops.specs.Units.{Units}
-use Rattle.tta_arch.specs.Machine.{Machine}
-use Rattle.tta_moves.specs.declared.items.Item.{Item}
-use Rattle.tta_moves.specs.Meaning.{is_waiting, Held, effect_of, does, lacks, do_items, has_meaning}
+use Rattle.tta_order.specs.Cited.{Units, Machine, Item, is_waiting, Held, effect_of, does, lacks, do_items, has_meaning}
 use Rattle.tta_moves.proofs.Places.{either}
 use Rattle.tta_optim.proofs.Copies.{first_means}
 use Rattle.tta_order.specs.Channels.{may_wait}

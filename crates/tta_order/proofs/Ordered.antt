@@ -3,13 +3,7 @@ use Rattle.std.proofs.Common.{◌≡◌, ℕ, ◌<◌, Some, true, false, List, 
 use Rattle.std.specs.Prelude.{◌&&◌, nat_le, slice_get}
 use Rattle.std.specs.List.{list_all}
 use Rattle.std.proofs.lemmas.Bool.{and_parts}
-use Rattle.tta_arch.specs.Machine.{Machine}
-use Rattle.tta_arch.specs.Rules.{IsMachine}
-use Rattle.tta_arch.specs.Effects.{KeptReg}
-use Rattle.tta_moves.specs.declared.items.Item.{Item}
-use Rattle.tta_moves.specs.Numbers.{is_place}
-use Rattle.tta_moves.specs.Slots.{is_list, has_slot, control_is_last}
-use Rattle.tta_optim.specs.Kept.{KeepsMeaning, AsksNoMore}
+use Rattle.tta_order.specs.Cited.{Machine, IsMachine, KeptReg, Item, is_place, is_list, has_slot, control_is_last, KeepsMeaning, AsksNoMore}
 use Rattle.tta_optim.proofs.Slotted.{slotted}
 use Rattle.tta_order.specs.declared.rows.Found.{Found}
 use Rattle.tta_order.specs.Orders.{bare, picked, settled, IsOrder}

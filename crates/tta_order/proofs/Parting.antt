@@ -6,14 +6,7 @@ use Rattle.std.specs.List.{list_all}
 use Rattle.std.proofs.lemmas.Bool.{and_parts, and_from}
 use Rattle.std.proofs.lemmas.Bool.Decides.{nat_tests}
 use Rattle.std.proofs.lemmas.Option.{slice_get_within}
-use Rattle.tta_arch.specs.declared.parts.UnitOp.{UnitOp}
-use Rattle.tta_arch.specs.declared.parts.Op.{Op}
-use Rattle.tta_arch.specs.declared.parts.Op.TheVariants.{Ldw, Stw, Ldf, Stf, Out, Take, Set}
-use Rattle.tta_arch.specs.Machine.{Machine}
-use Rattle.tta_arch.specs.Effects.{Target, Reg, Imm, Operand, Trigger, Control, Jumps, Calls, Halts, KeptOperand, KeptPort, has_result, op_at}
-use Rattle.tta_moves.specs.declared.items.ItemSource.{ItemSource}
-use Rattle.tta_moves.specs.declared.items.Item.{Item}
-use Rattle.tta_moves.specs.Touches.{source_of, target_of_item, place_written, is_at, writes}
+use Rattle.tta_order.specs.Cited.{UnitOp, Op, Ldw, Stw, Ldf, Stf, Out, Take, Set, Machine, Target, Reg, Imm, Operand, Trigger, Control, Jumps, Calls, Halts, KeptOperand, KeptPort, has_result, op_at, ItemSource, Item, source_of, target_of_item, place_written, is_at, writes}
 use Rattle.tta_moves.proofs.Places.{either}
 use Rattle.tta_order.specs.Channels.{starts, uses_frame}
 use Rattle.tta_order.specs.Slots.{constant_of, sure_constant, held_constant, slot_by, slot_at, slot_with, slot_of, held_at, after_target, after_item, AreParts, AreSlots}

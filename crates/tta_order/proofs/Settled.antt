@@ -2,8 +2,7 @@
 use Rattle.std.proofs.Common.{◌≡◌, ℕ, suc, ◌+◌, ◌<◌, ◌≤◌, true, false, Bool, List, [], ◌∷◌, length, drop, get_or, refl, sym, ap, arith, ◌∙◌}
 use Rattle.std.specs.Prelude.{if◌then◌else◌, not, ◌&&◌}
 use Rattle.std.proofs.lemmas.List.{drop_more, drop_all}
-use Rattle.tta_arch.specs.Machine.{Machine}
-use Rattle.tta_moves.specs.declared.items.Item.{Item}
+use Rattle.tta_order.specs.Cited.{Machine, Item}
 use Rattle.tta_order.specs.Channels.{may_wait}
 use Rattle.tta_order.specs.Orders.{goes_through, settled}
 

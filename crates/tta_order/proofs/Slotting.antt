@@ -2,18 +2,8 @@
 use Rattle.std.proofs.Common.{◌≡◌, ℕ, zero, suc, Bool, true, false, List, Option, Some, None, refl, sym, ap, subst, ◌∙◌}
 use Rattle.std.specs.Prelude.{if◌then◌else◌, ◌==◌, slice_get}
 use Rattle.std.specs.Option.{option_map_or}
-use Rattle.tta_ops.specs.Units.{Units}
-use Rattle.tta_arch.specs.declared.ends.GuardRef.{GuardRef}
+use Rattle.tta_order.specs.Cited.{Units, GuardRef, UnitOp, Ldf, Stf, Machine, Target, Reg, Imm, Operand, Trigger, Control, Jumps, Calls, Halts, KeptOperand, KeptPort, Written, kept, moved, has_result, op_at, Start, start_of, operand_of, operand_word, ItemSource, Port, Address, Item, guard_of, source_of, target_of_item, place_written, is_at, writes, is_waiting, Held, linked, effect_of, read_held, does}
 use Rattle.tta_arch.specs.declared.ends.Source.TheVariants as source
-use Rattle.tta_arch.specs.declared.parts.UnitOp.{UnitOp}
-use Rattle.tta_arch.specs.declared.parts.Op.TheVariants.{Ldf, Stf}
-use Rattle.tta_arch.specs.Machine.{Machine}
-use Rattle.tta_arch.specs.Effects.{Target, Reg, Imm, Operand, Trigger, Control, Jumps, Calls, Halts, KeptOperand, KeptPort, Written, kept, moved, has_result, op_at, Start, start_of, operand_of, operand_word}
-use Rattle.tta_moves.specs.declared.items.ItemSource.{ItemSource}
-use Rattle.tta_moves.specs.declared.items.ItemSource.TheVariants.{Port, Address}
-use Rattle.tta_moves.specs.declared.items.Item.{Item}
-use Rattle.tta_moves.specs.Touches.{guard_of, source_of, target_of_item, place_written, is_at, writes}
-use Rattle.tta_moves.specs.Meaning.{is_waiting, Held, linked, effect_of, read_held, does}
 use Rattle.tta_moves.proofs.Places.{either, kept_there}
 use Rattle.tta_moves.proofs.Steps.{kept_other}
 use Rattle.tta_order.specs.Channels.{Division, part_with, part_of, starts, uses_frame}

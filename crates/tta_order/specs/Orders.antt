@@ -2,9 +2,7 @@
 use Rattle.std.specs.Prelude.{◌≡◌, ◌<◌, ⊤, ℕ, zero, suc, Bool, true, false, not, if◌then◌else◌, List, [], ◌∷◌, length, map, replicate, Option, Some, None, slice_get, slice_set}
 use Rattle.std.specs.Option.{option_map_or}
 use Rattle.std.specs.List.{list_all}
-use Rattle.tta_arch.specs.Machine.{Machine}
-use Rattle.tta_moves.specs.declared.items.Item.{Item}
-use Rattle.tta_moves.specs.Slots.{control_is_last}
+use Rattle.tta_order.specs.Cited.{Machine, Item, control_is_last}
 use Rattle.tta_order.specs.Channels.{Channel, Division, alters, asks, survives, may_wait}
 use Rattle.tta_order.specs.Slots.{IsDivision}
 

@@ -3,14 +3,7 @@ use Rattle.std.specs.Prelude.{◌≡◌, ℕ, zero, suc, ◌==◌, Bool, true, f
 use Rattle.std.specs.List.{list_all}
 use Rattle.std.specs.Option.{option_map_or}
 use Rattle.tta_arch.specs.declared.ends.Source.TheVariants as source
-use Rattle.tta_arch.specs.declared.parts.Op.{Op}
-use Rattle.tta_arch.specs.declared.parts.Op.TheVariants.{Ldf, Stf}
-use Rattle.tta_arch.specs.Machine.{Machine}
-use Rattle.tta_arch.specs.Effects.{Target, Reg, Imm, Operand, Trigger, Control, KeptOperand, op_at}
-use Rattle.tta_moves.specs.declared.items.ItemSource.{ItemSource}
-use Rattle.tta_moves.specs.declared.items.ItemSource.TheVariants.{Port}
-use Rattle.tta_moves.specs.declared.items.Item.{Item}
-use Rattle.tta_moves.specs.Touches.{source_of, target_of_item, writes, is_unguarded}
+use Rattle.tta_order.specs.Cited.{Op, Ldf, Stf, Machine, Target, Reg, Imm, Operand, Trigger, Control, KeptOperand, op_at, ItemSource, Port, Item, source_of, target_of_item, writes, is_unguarded}
 use Rattle.tta_order.specs.Channels.{Division, starts, uses_frame}
 
 -- the constant that a source is, if it is one

@@ -1,8 +1,6 @@
 -- What is proved of orders: of each other order of a list's items, in which each finds what the same items brought.
 use Rattle.std.specs.Prelude.{ℕ, List}
-use Rattle.tta_arch.specs.Machine.{Machine}
-use Rattle.tta_moves.specs.declared.items.Item.{Item}
-use Rattle.tta_optim.specs.Kept.{KeepsMeaning, AsksNoMore}
+use Rattle.tta_order.specs.Cited.{Machine, Item, KeepsMeaning, AsksNoMore}
 use Rattle.tta_order.specs.Orders.{Numbered, bare, IsOrder}
 
 -- the items of a list in another order keep its meaning

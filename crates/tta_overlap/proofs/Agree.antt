@@ -4,28 +4,13 @@ use Rattle.std.specs.Prelude.{IsTrue}
 use Rattle.std.specs.List.{AllByRecursion}
 use Rattle.std.proofs.Math.Nat.{mul-suc}
 use Rattle.tta_list.proofs.Prefixes.{prefix_same, prefix_chain}
-use Rattle.tta_list.specs.Prefix.{IsPrefixOf}
+use Rattle.tta_overlap.specs.Cited.{IsPrefixOf, Units, Machine, IsMachine, over, Program, step_count, data_of, seq, BlockList, Held, AreAddresses, lrun, Instruction, Code, is_legal, Whole, data_in, State, cyc, IsGiven, HaltAlike, WaitAlike, Agrees, program_at}
 use Rattle.tta_list.proofs.Lists.{all_append}
-use Rattle.tta_ops.specs.Units.{Units}
-use Rattle.tta_arch.specs.Machine.{Machine}
-use Rattle.tta_arch.specs.Rules.{IsMachine}
-use Rattle.tta_list.specs.Laid.{over}
-use Rattle.tta_program.specs.Program.{Program, step_count, data_of}
 use Rattle.tta_program.specs.Sequential as program
-use Rattle.tta_program.specs.Sequential.{seq}
 use Rattle.tta_program.proofs.Halted.{later_end}
-use Rattle.tta_moves.specs.declared.items.BlockList.{BlockList}
-use Rattle.tta_moves.specs.Meaning.{Held}
 use Rattle.tta_list.specs.Legs as legs
 use Rattle.tta_list.specs.Legs.{Run}
-use Rattle.tta_moves.specs.Runs.{AreAddresses, lrun}
-use Rattle.tta_code.specs.declared.code.Instruction.{Instruction}
-use Rattle.tta_code.specs.declared.code.Code.{Code}
-use Rattle.tta_code.specs.Legal.{is_legal}
-use Rattle.tta_code.specs.Whole.{Whole, data_in}
 use Rattle.tta_code.specs.Cycle as cycle
-use Rattle.tta_code.specs.Cycle.{State, cyc}
-use Rattle.tta_agree.specs.Agrees.{IsGiven, HaltAlike, WaitAlike, Agrees, program_at}
 use Rattle.tta_agree.proofs.Words.{none_words}
 use Rattle.tta_overlap.specs.Means.{Means, MeanAt}
 use Rattle.tta_overlap.proofs.Row.{IsRow, HasHalted, HasStopped, Tracks, goes, halts, stops}

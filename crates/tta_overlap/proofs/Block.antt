@@ -5,17 +5,11 @@ use Rattle.std.specs.Option.{option_map_or}
 use Rattle.std.proofs.lemmas.Bool.{cases_lt, not-true}
 use Rattle.std.proofs.lemmas.Bool.Decides.{nat_tests}
 use Rattle.std.proofs.lemmas.List.{take_all}
-use Rattle.tta_list.specs.Iterate.{iterate}
-use Rattle.tta_arch.specs.Machine.{Machine}
-use Rattle.tta_arch.specs.Effects.{Jumps, Calls, Halts, Effect}
-use Rattle.tta_ops.specs.Units.{Units}
-use Rattle.tta_code.specs.declared.code.Code.{Code}
-use Rattle.tta_code.specs.Cycle.{State, Halted, Waiting, Pending, lands, next}
-use Rattle.tta_moves.specs.Meaning.{Exit, Next, Leaves, Waits as Stops, Held, lacks}
-use Rattle.tta_moves.specs.Bounds.{At}
+use Rattle.tta_overlap.specs.Cited.{iterate, Machine, Jumps, Calls, Halts, Effect, Units, Code, State, Pending, lands, next, Exit, Next, Leaves, Held, lacks, At}
+use Rattle.tta_code.specs.Cycle.{Halted, Waiting}
+use Rattle.tta_moves.specs.Meaning.{Waits as Stops}
 use Rattle.tta_overlap.proofs.Total.{do_move, wants, do_moves, Timed}
-use Rattle.tta_moves.specs.Meaning.{Exit, Next, Leaves, Waits as Stops, Held, lacks}
-use Rattle.tta_moves.specs.Bounds.{At}
+use Rattle.tta_moves.specs.Meaning.{Waits as Stops}
 use Rattle.tta_overlap.proofs.Total.{do_move, do_moves, has_meaning, wants, waits_at, Timed}
 use Rattle.tta_overlap.proofs.Steps.{IsPlain}
 use Rattle.tta_overlap.specs.Overlap.{space_by}

@@ -5,13 +5,9 @@ use Rattle.std.specs.Prelude.{slice_get, max, not, ◌||◌, map, ◌==◌}
 use Rattle.std.proofs.lemmas.Bool.{cases_lt}
 use Rattle.std.proofs.lemmas.Bool.Decides.{nat_tests}
 use Rattle.std.proofs.lemmas.Option.{slice_get-get_or}
-use Rattle.tta_arch.specs.Machine.{Machine}
-use Rattle.tta_arch.specs.Effects.{Target, Reg, Imm, Operand, Trigger, Control, Place}
-use Rattle.tta_moves.specs.declared.items.Item.{Item}
-use Rattle.tta_moves.specs.declared.items.PlacedItem.{PlacedItem}
-use Rattle.tta_moves.specs.Slots.{control_is_last}
-use Rattle.tta_moves.specs.Touches.{target_of_item, controls, is_control as is_control_item}
-use Rattle.tta_moves.specs.Bounds.{Spot, At, due_after, lasts, over_before, bound, least, last_end, control_cycle, length_of, reads_by as item_reads, writes_by as item_writes}
+use Rattle.tta_overlap.specs.Cited.{Machine, Target, Reg, Imm, Operand, Trigger, Control, Place, Item, PlacedItem, control_is_last, target_of_item, controls, Spot, At, due_after, lasts, over_before, bound, least, last_end, control_cycle, length_of}
+use Rattle.tta_moves.specs.Touches.{is_control as is_control_item}
+use Rattle.tta_moves.specs.Bounds.{reads_by as item_reads, writes_by as item_writes}
 use Rattle.tta_overlap.proofs.Total.{Timed, reads_by, writes_by, is_control}
 use Rattle.tta_overlap.proofs.Steps.{offset, offset_of}
 use Rattle.tta_overlap.proofs.Items.{behind_is, nth, and_parts, max_first, lasts_is, idle_item, item_at, timed, nth_timed, length_timed, reads_linked, control_linked, least_is}

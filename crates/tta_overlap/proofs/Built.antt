@@ -5,17 +5,8 @@ use Rattle.std.specs.List.{AllByRecursion}
 use Rattle.std.proofs.lemmas.Bool.{and_parts}
 use Rattle.std.proofs.lemmas.Bool.Decides.{nat_tests}
 use Rattle.std.proofs.Math.Pow.{pow_mono}
-use Rattle.tta_ops.specs.Units.{Units}
-use Rattle.tta_arch.specs.Machine.{Machine}
-use Rattle.tta_arch.specs.Rules.{IsMachine, is_from_to, is_socket, is_port_socket}
-use Rattle.tta_list.specs.Laid.{over}
-use Rattle.tta_program.specs.Program.{Program, data_of}
-use Rattle.tta_code.specs.Whole.{Whole}
-use Rattle.tta_agree.specs.Agrees.{IsGiven, Agrees}
+use Rattle.tta_overlap.specs.Cited.{Units, Machine, IsMachine, is_from_to, is_socket, is_port_socket, over, Program, data_of, Whole, IsGiven, Agrees, BlockList, Placed, starts_from}
 use Rattle.tta_agree.proofs.Words.{laid_words}
-use Rattle.tta_moves.specs.declared.items.BlockList.{BlockList}
-use Rattle.tta_moves.specs.declared.items.Placed.{Placed}
-use Rattle.tta_link.specs.Linked.{starts_from}
 use Rattle.tta_overlap.specs.Laws.{IsBuilt}
 use Rattle.tta_overlap.proofs.Rowed.{linked_row, linked_addresses}
 use Rattle.tta_overlap.proofs.Agree.{code_agrees}

@@ -1,10 +1,8 @@
 -- From one list to the next.
 use Rattle.std.proofs.Common.{◌≡◌, ℕ, Bool, true, false, List, [], ◌∷◌, Some, None, refl, sym, ap, ◌∙◌, filter}
 use Rattle.std.specs.Prelude.{if◌then◌else◌}
-use Rattle.tta_arch.specs.Effects.{Place, KeptPort, same_place, Written, kept as lookup}
-use Rattle.tta_code.specs.Cycle.{State}
-use Rattle.tta_moves.specs.Meaning.{Held}
-use Rattle.tta_moves.specs.Runs.{lives, restart}
+use Rattle.tta_overlap.specs.Cited.{Place, KeptPort, Written, State, Held, lives, restart}
+use Rattle.tta_arch.specs.Effects.{same_place, kept as lookup}
 use Rattle.tta_overlap.proofs.Starts.{Covers}
 use Rattle.tta_overlap.proofs.InBlock.{Matches}
 use Rattle.tta_moves.proofs.Places.{either}

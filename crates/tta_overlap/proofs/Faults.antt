@@ -3,9 +3,8 @@ use Rattle.std.proofs.Common.{◌≡◌, ◌≢◌, inl, inr, ℕ, suc, ◌+◌,
 use Rattle.std.specs.Prelude.{slice_get, ◌&&◌, ◌||◌, is_none, is_some}
 use Rattle.std.proofs.lemmas.Bool.Decides.{nat_tests}
 use Rattle.std.proofs.Math.Bool.{and-false}
-use Rattle.tta_arch.specs.Effects.{Kind, Effect, moved, bring, Start, has_result, takes, has_unset_guard, has_unset, is_register, is_port, lacks_operand, control_of, first_some as pick}
-use Rattle.tta_code.specs.Cycle.{later, read_source, reads_unset_register, reads_unset_port, clashes, pending_after, fault_of}
-use Rattle.tta_moves.specs.Meaning.{Held, read_held, exit_after}
+use Rattle.tta_overlap.specs.Cited.{Kind, Effect, moved, bring, Start, has_result, takes, has_unset_guard, has_unset, is_register, is_port, lacks_operand, control_of, later, read_source, reads_unset_register, reads_unset_port, clashes, pending_after, fault_of, Held, read_held, exit_after}
+use Rattle.tta_arch.specs.Effects.{first_some as pick}
 use Rattle.tta_overlap.proofs.Total.{started_by, wants}
 use Rattle.tta_code.specs.Cycle as machine
 use Rattle.tta_overlap.proofs.Cut.{IsCut, Right, goes_on}

@@ -4,8 +4,8 @@ use Rattle.std.proofs.Common.{◌≡◌, ◌≢◌, ◌⊎◌, inl, inr, ℕ, ze
 use Rattle.std.specs.Prelude.{slice_get, ◌||◌, if◌then◌else◌}
 use Rattle.std.specs.List.{list_any, range_with_len}
 use Rattle.std.proofs.lemmas.Bool.{cases_lt}
-use Rattle.tta_arch.specs.Effects.{or_else, first_some as pick}
-use Rattle.tta_arch.specs.Rules.{are_different}
+use Rattle.tta_overlap.specs.Cited.{or_else, are_different}
+use Rattle.tta_arch.specs.Effects.{first_some as pick}
 use Rattle.tta_overlap.proofs.Pick.{Has, pick_one}
 
 pub has_append : {A : Type 0} (xs ys : List A) (y : A) → Has (xs ++ ys) y → Has xs y ⊎ Has ys y

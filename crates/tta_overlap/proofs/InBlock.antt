@@ -2,10 +2,10 @@
 use Rattle.std.proofs.Common.{◌≡◌, ℕ, zero, suc, ◌+◌, ◌<◌, ◌≤◌, true, false, None, refl, sym, ap, subst, ◌∙◌, arith}
 use Rattle.std.specs.Prelude.{◌==◌}
 use Rattle.std.proofs.lemmas.Bool.Decides.{nat_tests}
-use Rattle.tta_arch.specs.Effects.{Place, KeptPort, kept as lookup, first_some as pick}
-use Rattle.tta_code.specs.Cycle.{State, Running, port, lands, next}
-use Rattle.tta_moves.specs.Meaning.{Exit, Next, Leaves, Waits as Stops, Held}
-use Rattle.tta_list.specs.Iterate.{iterate}
+use Rattle.tta_overlap.specs.Cited.{Place, KeptPort, State, port, lands, next, Exit, Next, Leaves, Held, iterate}
+use Rattle.tta_arch.specs.Effects.{kept as lookup, first_some as pick}
+use Rattle.tta_code.specs.Cycle.{Running}
+use Rattle.tta_moves.specs.Meaning.{Waits as Stops}
 use Rattle.tta_overlap.proofs.Cut.{IsCut, at_start, cut_exists}
 use Rattle.tta_overlap.proofs.Ports.{due_then}
 use Rattle.tta_overlap.proofs.Steps.{is_kept}

@@ -2,14 +2,9 @@
 use Rattle.std.proofs.Common.{◌≡◌, ℕ, ◌+◌, ◌<◌, true, List, ◌++◌, Some, refl, ap, ◌∙◌, arith, get_or}
 use Rattle.std.specs.List.{filter_map}
 use Rattle.std.proofs.lemmas.Option.{slice_get-get_or, slice_get_within, get_or_from_slice_get}
-use Rattle.tta_arch.specs.declared.ends.Source.{Source}
+use Rattle.tta_overlap.specs.Cited.{Source, Calls, Control, Effect, Place, KeptReg, KeptImm, KeptRa, KeptPort, Written, moved, bring, Brought, write_of, Start, start_of, State, read_source, effects_of, read_held, place_of, Instruction}
 use Rattle.tta_arch.specs.declared.ends.Source.TheVariants as source
-use Rattle.tta_arch.specs.Effects.{Calls, Control, Effect, Place, KeptReg, KeptImm, KeptRa, KeptPort, Written, moved, bring, Brought, write_of, Start, start_of}
-use Rattle.tta_code.specs.Cycle.{State, read_source, effects_of}
-use Rattle.tta_moves.specs.Meaning.{read_held}
-use Rattle.tta_moves.specs.Touches.{place_of}
 use Rattle.tta_overlap.proofs.Total.{Timed, is_control}
-use Rattle.tta_code.specs.declared.code.Instruction.{Instruction}
 use Rattle.tta_overlap.proofs.Cut.{IsCut}
 use Rattle.tta_overlap.proofs.Pick.{Has}
 use Rattle.tta_overlap.proofs.Starts.{Covers, covers_set}

@@ -2,9 +2,7 @@
 use Rattle.std.proofs.Common.{◌≡◌, ◌≢◌, inl, inr, ℕ, suc, ◌<◌, true, false, List, sym, ap, subst, ◌∙◌, arith}
 use Rattle.std.specs.Prelude.{fold}
 use Rattle.std.proofs.lemmas.Bool.Decides.{nat_tests}
-use Rattle.tta_arch.specs.Effects.{Effect, moved}
-use Rattle.tta_code.specs.Cycle.{read_source}
-use Rattle.tta_moves.specs.Meaning.{read_held}
+use Rattle.tta_overlap.specs.Cited.{Effect, moved, read_source, read_held}
 use Rattle.tta_overlap.proofs.Cut.{Right, goes_on}
 use Rattle.tta_overlap.proofs.Steps.{starting}
 use Rattle.tta_overlap.proofs.Spaces.{Space, once_started, fold_none, fold_one, fold_cycle, once_noop}

@@ -2,20 +2,12 @@
 use Rattle.std.proofs.Common.{◌≡◌, ℕ, zero, suc, ◌+◌, ◌<◌, ◌≤◌, Bool, true, false, List, [], ◌∷◌, ◌++◌, Option, Some, None, refl, ap, arith, length, take, get_or}
 use Rattle.std.specs.Option.{option_map_or}
 use Rattle.std.specs.Prelude.{max, map, ◌&&◌, if◌then◌else◌}
-use Rattle.tta_arch.specs.declared.ends.GuardRef.{GuardRef}
+use Rattle.tta_overlap.specs.Cited.{GuardRef, Machine, Jumps, Calls, Halts, Target, Reg, Imm, Operand, Trigger, Control, KeptReg, KeptImm, KeptOperand, KeptRa, KeptPort, or_else, linked, effect_of, Item, ItemSource, Port, Address, Bus, PlacedItem, place_of, place_of_source, source_of, target_of_item, controls, Spot, At, Started, same_spot, Touch, due_after, operand_read, written_at, from_moment, behind, bound, least}
 use Rattle.tta_arch.specs.declared.ends.Source.TheVariants as source
-use Rattle.tta_arch.specs.Machine.{Machine}
-use Rattle.tta_arch.specs.Effects.{Jumps, Calls, Halts, Target, Reg, Imm, Operand, Trigger, Control, KeptReg, KeptImm, KeptOperand, KeptRa, KeptPort, or_else}
-use Rattle.tta_moves.specs.Meaning.{linked, effect_of}
-use Rattle.tta_moves.specs.declared.items.Item.{Item}
 use Rattle.tta_moves.specs.declared.items.Item.TheVariants.{Move}
-use Rattle.tta_moves.specs.declared.items.ItemSource.{ItemSource}
-use Rattle.tta_moves.specs.declared.items.ItemSource.TheVariants.{Port, Address}
-use Rattle.tta_moves.specs.declared.items.Slot.TheVariants.{Bus}
-use Rattle.tta_moves.specs.declared.items.PlacedItem.{PlacedItem}
 use Rattle.tta_arch.specs.declared.ends.Dest.TheVariants as dest
-use Rattle.tta_moves.specs.Touches.{place_of, place_of_source, source_of, target_of_item, controls, is_control as is_control_item}
-use Rattle.tta_moves.specs.Bounds.{Spot, At, Started, same_spot, Touch, due_after, operand_read, written_at, from_moment, behind, bound, least, reads_by as item_reads}
+use Rattle.tta_moves.specs.Touches.{is_control as is_control_item}
+use Rattle.tta_moves.specs.Bounds.{reads_by as item_reads}
 use Rattle.tta_overlap.proofs.Total.{Timed, reads_by, is_control}
 use Rattle.tta_overlap.proofs.Steps.{offset_of}
 use Rattle.tta_overlap.proofs.Placing.{idle}

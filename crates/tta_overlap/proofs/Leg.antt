@@ -4,13 +4,8 @@ use Rattle.std.proofs.lemmas.Bool.{and_parts}
 use Rattle.std.specs.Prelude.{slice_index, length, not, ◌&&◌, ◌||◌, ◌==◌, if◌then◌else◌, option_map}
 use Rattle.std.proofs.lemmas.Bool.Decides.{nat_tests}
 use Rattle.std.proofs.lemmas.List.{append-nil}
-use Rattle.tta_arch.specs.Machine.{Machine}
-use Rattle.tta_arch.specs.Effects.{Effect}
-use Rattle.tta_ops.specs.Units.{Units}
-use Rattle.tta_moves.specs.declared.items.BlockList.{BlockList}
-use Rattle.tta_moves.specs.Meaning.{is_waiting, Held, effect_of, does, does_all, means, lacks}
-use Rattle.tta_list.specs.Legs.{Leave, ToNowhere, Run, Undefined, after_block, leg}
-use Rattle.tta_moves.specs.Runs.{block_at, restart, leave_of, go_list}
+use Rattle.tta_overlap.specs.Cited.{Machine, Effect, Units, BlockList, is_waiting, Held, effect_of, does, does_all, means, lacks, Leave, ToNowhere, Undefined, after_block, leg, block_at, restart, leave_of, go_list}
+use Rattle.tta_list.specs.Legs.{Run}
 use Rattle.tta_overlap.proofs.Total.{do_move, wants, waits_at}
 use Rattle.tta_overlap.proofs.Padded.{pad, does_same, next_none, move_runs, all_same, move_pad, wants_pad, lacks_pad, all_pad, waits_pad}
 

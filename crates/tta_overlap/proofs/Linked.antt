@@ -9,30 +9,13 @@ use Rattle.std.proofs.lemmas.Option.{slice_get-map}
 use Rattle.tta_list.proofs.Lists.{list_all_one, all_one}
 use Rattle.tta_arch.specs.declared.ends.Source.TheVariants as source
 use Rattle.tta_arch.specs.declared.parts.Template.{Template as Field}
-use Rattle.tta_arch.specs.Machine.{Machine}
-use Rattle.tta_arch.specs.Legal.{can_move}
-use Rattle.tta_arch.specs.Rules.{IsMachine, are_different}
-use Rattle.tta_arch.specs.Effects.{Effect, long_effect, first_some as pick}
+use Rattle.tta_overlap.specs.Cited.{Machine, can_move, IsMachine, are_different, Effect, long_effect, Long, Instruction, Code, moves_of, long_effects, effects_of, is_legal, Item, LongValue, Slot, Bus, Template, PlacedItem, Placed, linked, effect_of, source_of_long, in_cycle, carried, carries, clash, fills, fits_cycle, slots_of, taken_of, move_on, long_word, long_on, instruction_of, HoldsBlock}
+use Rattle.tta_arch.specs.Effects.{first_some as pick}
 use Rattle.tta_code.specs.declared.code.Move.{Move}
-use Rattle.tta_code.specs.declared.code.Long.{Long}
-use Rattle.tta_code.specs.declared.code.Instruction.{Instruction}
-use Rattle.tta_code.specs.declared.code.Code.{Code}
-use Rattle.tta_code.specs.Cycle.{effect_of as move_effect, moves_of, long_effects, effects_of}
-use Rattle.tta_code.specs.Legal.{is_legal}
-use Rattle.tta_moves.specs.declared.items.Item.{Item}
+use Rattle.tta_code.specs.Cycle.{effect_of as move_effect}
 use Rattle.tta_moves.specs.declared.items.Item.TheVariants as item
-use Rattle.tta_moves.specs.declared.items.LongValue.{LongValue}
 use Rattle.tta_moves.specs.declared.items.LongValue.TheVariants as long
-use Rattle.tta_moves.specs.declared.items.Slot.{Slot}
-use Rattle.tta_moves.specs.declared.items.Slot.TheVariants.{Bus, Template}
-use Rattle.tta_moves.specs.declared.items.PlacedItem.{PlacedItem}
-use Rattle.tta_moves.specs.declared.items.Placed.{Placed}
-use Rattle.tta_moves.specs.Meaning.{linked, effect_of}
-use Rattle.tta_moves.specs.Touches.{source_of_long}
-use Rattle.tta_moves.specs.Bounds.{in_cycle}
-use Rattle.tta_moves.specs.Slots.{carried, carries, clash, fills, fits_cycle, slots_of, taken_of}
 use Rattle.tta_moves.proofs.Buses.{joins_below}
-use Rattle.tta_link.specs.Linked.{move_on, long_word, long_on, instruction_of, HoldsBlock}
 use Rattle.tta_overlap.proofs.Total.{Timed}
 use Rattle.tta_overlap.proofs.Pick.{Has, has_filter_map, filter_map_has}
 use Rattle.tta_overlap.proofs.Found.{has_append, has_front, has_back, has_map, map_has, has_filter, filter_has, pick_has, different_at, pick_alone, range_has}

@@ -7,14 +7,11 @@ use Rattle.std.proofs.lemmas.Bool.Decides.{nat_tests}
 use Rattle.std.proofs.lemmas.List.{take_more}
 use Rattle.std.proofs.lemmas.Grind.{fold-append}
 use Rattle.std.proofs.lemmas.List.{map-append}
-use Rattle.tta_arch.specs.Machine.{Machine}
-use Rattle.tta_arch.specs.Effects.{Effect, Place, KeptPort, kept as lookup, moved, or_else, first_some as pick}
-use Rattle.tta_ops.specs.Units.{Units}
-use Rattle.tta_code.specs.Cycle.{State, Running, Result', later, port, waits}
-use Rattle.tta_moves.specs.Meaning.{Exit, Next, Leaves, Waits as Stops, Held, read_held, exit_after}
-use Rattle.tta_moves.specs.Bounds.{Spot, At, Started}
+use Rattle.tta_overlap.specs.Cited.{Machine, Effect, Place, KeptPort, moved, or_else, Units, State, Result', later, port, waits, Exit, Next, Leaves, Held, read_held, exit_after, Spot, At, Started, Code}
+use Rattle.tta_arch.specs.Effects.{kept as lookup, first_some as pick}
+use Rattle.tta_code.specs.Cycle.{Running}
+use Rattle.tta_moves.specs.Meaning.{Waits as Stops}
 use Rattle.tta_overlap.proofs.Total.{do_move, Timed, is_control}
-use Rattle.tta_code.specs.declared.code.Code.{Code}
 use Rattle.tta_code.specs.Cycle as machine
 use Rattle.tta_overlap.proofs.Cut.{IsCut, Right}
 use Rattle.tta_overlap.proofs.Ports.{due_then}

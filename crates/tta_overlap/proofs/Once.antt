@@ -6,17 +6,13 @@ use Rattle.std.specs.Option.{option_map_or}
 use Rattle.std.specs.List.{filter_map, list_any}
 use Rattle.std.proofs.lemmas.Bool.{cases_lt, and_parts}
 use Rattle.std.proofs.lemmas.Bool.Decides.{nat_tests}
-use Rattle.tta_arch.specs.declared.ends.Dest.{Dest}
+use Rattle.tta_overlap.specs.Cited.{Dest, Machine, ends_of, are_apart, can_move, keeps_taken, is_joined, has_reads, has_writes, Jumps, Calls, Halts, Effect, Target, Reg, Imm, Operand, Trigger, Control, target_of, long_effect, Long, Instruction, moves_of, long_effects, effects_of, is_legal, is_instruction}
 use Rattle.tta_arch.specs.declared.ends.Dest.TheVariants as dest
 use Rattle.tta_arch.specs.declared.parts.Template.{Template as Field}
-use Rattle.tta_arch.specs.Machine.{Machine}
-use Rattle.tta_arch.specs.Legal.{Ends, ends_of, same_place, are_apart, can_move, keeps_taken, is_joined, has_reads, has_writes}
-use Rattle.tta_arch.specs.Effects.{Jumps, Calls, Halts, Effect, Target, Reg, Imm, Operand, Trigger, Control, target_of, long_effect}
+use Rattle.tta_arch.specs.Legal.{Ends, same_place}
 use Rattle.tta_code.specs.declared.code.Move.{Move}
-use Rattle.tta_code.specs.declared.code.Long.{Long}
-use Rattle.tta_code.specs.declared.code.Instruction.{Instruction}
-use Rattle.tta_code.specs.Cycle.{effect_of as move_effect, moves_of, long_effects, effects_of}
-use Rattle.tta_code.specs.Legal.{is_legal, slots_of as slots_in, ends_of as ends_in, taken, is_instruction}
+use Rattle.tta_code.specs.Cycle.{effect_of as move_effect}
+use Rattle.tta_code.specs.Legal.{slots_of as slots_in, ends_of as ends_in, taken}
 
 -- ---- no effect stands twice
 

@@ -5,9 +5,9 @@ use Rattle.std.specs.Prelude.{slice_get, ◌==◌, ◌&&◌, is_none, fold}
 use Rattle.std.specs.List.{list_any}
 use Rattle.std.proofs.lemmas.Bool.Decides.{nat_tests}
 use Rattle.std.proofs.Math.Bool.{and-false}
-use Rattle.tta_arch.specs.Effects.{Effect, moved, bring, Start, start_of, store_data, store_frame, put_out, takes, take_in, first_some as pick}
-use Rattle.tta_code.specs.Cycle.{State, Running, Waiting, read_source, pending_after, lands, acts as act_cycle, waits, or_wait, or_fault, carry_out, next_of, next}
-use Rattle.tta_moves.specs.Meaning.{read_held}
+use Rattle.tta_overlap.specs.Cited.{Effect, moved, bring, Start, start_of, store_data, store_frame, put_out, takes, take_in, State, read_source, pending_after, lands, waits, or_wait, or_fault, carry_out, next_of, next, read_held}
+use Rattle.tta_arch.specs.Effects.{first_some as pick}
+use Rattle.tta_code.specs.Cycle.{Running, Waiting, acts as act_cycle}
 use Rattle.tta_overlap.proofs.Total.{started_by, wants}
 use Rattle.tta_overlap.proofs.Padded.{longer}
 use Rattle.tta_overlap.proofs.Pick.{Has, any_none, filter_map_has, any_has, and_then_some}

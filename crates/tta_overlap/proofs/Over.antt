@@ -2,18 +2,12 @@
 use Rattle.std.proofs.Common.{◌≡◌, ◌≢◌, ◌⊎◌, inl, inr, ℕ, zero, suc, ◌+◌, ◌-◌, ◌≤◌, Bool, true, false, List, ◌++◌, Option, Some, None, refl, sym, ap, subst, arith}
 use Rattle.std.specs.Prelude.{slice_get, fold, if◌then◌else◌, ◌==◌}
 use Rattle.std.proofs.lemmas.Bool.{cases_lt}
-use Rattle.tta_list.specs.Iterate.{iterate}
-use Rattle.tta_ops.specs.Units.{Units}
-use Rattle.tta_arch.specs.Machine.{Machine}
-use Rattle.tta_arch.specs.Effects.{Kind, Jumps, Calls, Halts, Effect, Written, Brought, Start, start_of, bring, write_of, put_out, first_some, control_of}
+use Rattle.tta_overlap.specs.Cited.{iterate, Units, Machine, Kind, Jumps, Calls, Halts, Effect, Written, Brought, Start, start_of, bring, write_of, put_out, first_some, control_of, IsPrefixOf, Instruction, Code, State, Outcome, Fault, Pending, lands, takes_effect, or_fault, or_wait, carry_out, next_of, next, effects_of, read_source, fault_of, waits, pending_after}
 use Rattle.std.specs.List.{filter_map}
 use Rattle.tta_list.proofs.Prefixes.{prefix_same, prefix_chain}
-use Rattle.tta_list.specs.Prefix.{IsPrefixOf}
 use Rattle.tta_list.proofs.Iterated.{iterate-add, iterate-later}
 use Rattle.tta_arch.proofs.Outputs.{puts_prefix}
-use Rattle.tta_code.specs.declared.code.Instruction.{Instruction}
-use Rattle.tta_code.specs.declared.code.Code.{Code}
-use Rattle.tta_code.specs.Cycle.{State, Outcome, Running, Halted, Waiting, Fault, Pending, lands, takes_effect, acts, or_fault, or_wait, carry_out, next_of, next, effects_of, read_source, fault_of, waits, pending_after}
+use Rattle.tta_code.specs.Cycle.{Running, Halted, Waiting, acts}
 
 -- ---- prefixes
 

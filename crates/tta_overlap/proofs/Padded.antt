@@ -3,10 +3,8 @@ use Rattle.std.proofs.Common.{◌≡◌, ◌⊎◌, inl, inr, ℕ, zero, suc, �
 use Rattle.std.specs.Prelude.{slice_get, slice_index, is_none, not, ◌&&◌, ◌||◌, if◌then◌else◌}
 use Rattle.std.specs.Option.{option_map_or, option_to_list}
 use Rattle.std.specs.List.{list_any}
-use Rattle.tta_arch.specs.Machine.{Machine}
-use Rattle.tta_arch.specs.Effects.{Kind, Effect, Brought, bring, Start, start_of, takes, control_of}
-use Rattle.tta_ops.specs.Units.{Units}
-use Rattle.tta_moves.specs.Meaning.{Exit, Waits as Stops, is_waiting, Held, read_held, exit_after, acts, waits_for, arrives, does, does_all, means, lacks}
+use Rattle.tta_overlap.specs.Cited.{Machine, Kind, Effect, Brought, bring, Start, start_of, takes, control_of, Units, Exit, is_waiting, Held, read_held, exit_after, waits_for, arrives, does, does_all, means, lacks}
+use Rattle.tta_moves.specs.Meaning.{Waits as Stops, acts}
 use Rattle.tta_overlap.proofs.Total.{started_by, total, do_move, do_moves, has_meaning, wants, waits_at}
 use Rattle.tta_overlap.proofs.Items.{and_parts as and_split}
 use Rattle.tta_moves.proofs.Waiting.{stuck_all as does_stay}

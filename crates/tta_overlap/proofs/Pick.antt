@@ -2,7 +2,8 @@
 use Rattle.std.proofs.Common.{◌≡◌, ◌⊎◌, inl, inr, ℕ, zero, suc, Bool, true, false, List, [], ◌∷◌, ◌++◌, Option, Some, None, refl, sym, ap, ◌∙◌}
 use Rattle.std.specs.Prelude.{slice_get, option_and_then, ◌||◌}
 use Rattle.std.specs.List.{filter_map, cons_option, list_any}
-use Rattle.tta_arch.specs.Effects.{or_else, first_some as pick}
+use Rattle.tta_overlap.specs.Cited.{or_else}
+use Rattle.tta_arch.specs.Effects.{first_some as pick}
 
 abbrev pub Has : {A : Type 0} → List A → A → Type 0
 Has xs x = (k : ℕ) × (slice_get xs k ≡ Some x)

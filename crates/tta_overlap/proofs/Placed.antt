@@ -5,19 +5,7 @@ use Rattle.std.specs.List.{AllByRecursion}
 use Rattle.std.proofs.lemmas.Bool.Decides.{nat_tests}
 use Rattle.std.proofs.lemmas.Option.{slice_get-get_or}
 use Rattle.tta_list.proofs.Lists.{list_all_one}
-use Rattle.tta_arch.specs.Machine.{Machine}
-use Rattle.tta_arch.specs.Rules.{IsMachine}
-use Rattle.tta_arch.specs.Effects.{Effect}
-use Rattle.tta_code.specs.declared.code.Instruction.{Instruction}
-use Rattle.tta_code.specs.declared.code.Code.{Code}
-use Rattle.tta_code.specs.Legal.{is_legal}
-use Rattle.tta_moves.specs.declared.items.Item.{Item}
-use Rattle.tta_moves.specs.declared.items.PlacedItem.{PlacedItem}
-use Rattle.tta_moves.specs.declared.items.Placed.{Placed}
-use Rattle.tta_moves.specs.declared.items.BlockList.{BlockList}
-use Rattle.tta_moves.specs.Meaning.{effect_of}
-use Rattle.tta_moves.specs.Slots.{carries, control_is_last}
-use Rattle.tta_moves.specs.Bounds.{in_cycle}
+use Rattle.tta_overlap.specs.Cited.{Machine, IsMachine, Effect, Instruction, Code, is_legal, Item, PlacedItem, Placed, BlockList, effect_of, carries, control_is_last, in_cycle}
 use Rattle.tta_overlap.specs.Overlap.{IsPlaced}
 use Rattle.tta_overlap.proofs.Total.{Timed}
 use Rattle.tta_overlap.proofs.Found.{filter_has}

@@ -2,11 +2,8 @@
 use Rattle.std.proofs.Common.{◌≡◌, ◌≢◌, inl, inr, ℕ, suc, ◌+◌, ◌<◌, true, false, Option, Some, None, refl, sym, ap, subst, ◌∙◌, arith}
 use Rattle.std.specs.Prelude.{slice_index}
 use Rattle.std.proofs.lemmas.Bool.Decides.{nat_tests}
-use Rattle.tta_arch.specs.declared.parts.Op.{Op}
-use Rattle.tta_arch.specs.declared.parts.Op.TheVariants.{Ldw, Stw, Ldf, Stf, Out, Take, Set}
-use Rattle.tta_arch.specs.Effects.{Effect, Place, KeptOperand, kept as lookup, moved, Start, result_word, or_else, first_some as pick}
-use Rattle.tta_code.specs.Cycle.{read_source}
-use Rattle.tta_moves.specs.Meaning.{Held, read_held}
+use Rattle.tta_overlap.specs.Cited.{Op, Ldw, Stw, Ldf, Stf, Out, Take, Set, Effect, Place, KeptOperand, moved, Start, result_word, or_else, read_source, Held, read_held}
+use Rattle.tta_arch.specs.Effects.{kept as lookup, first_some as pick}
 use Rattle.tta_overlap.proofs.Cut.{Right, goes_on}
 use Rattle.tta_overlap.proofs.Pick.{pick_none, pick_one}
 use Rattle.tta_overlap.proofs.Steps.{into, into_other, is_kept, kept_after, starting, into_back}

@@ -2,15 +2,9 @@
 use Rattle.std.proofs.Common.{◌≡◌, ℕ, suc, ◌+◌, ◌<◌, ◌≤◌, Bool, true, false, List, Option, Some, None, refl, length, take, get_or, map}
 use Rattle.std.specs.Prelude.{slice_get, is_some}
 use Rattle.tta_arch.specs.declared.ends.Source.TheVariants as source
-use Rattle.tta_arch.specs.Machine.{Machine}
-use Rattle.tta_arch.specs.Effects.{Halts, Control, Effect, Place, kept as lookup}
-use Rattle.tta_ops.specs.Units.{Units}
-use Rattle.tta_code.specs.Cycle.{effects_of, waits}
-use Rattle.tta_moves.specs.Meaning.{Next, Held, lacks}
-use Rattle.tta_moves.specs.Bounds.{Spot}
+use Rattle.tta_overlap.specs.Cited.{Machine, Halts, Control, Effect, Place, Units, effects_of, waits, Next, Held, lacks, Spot, Code, Instruction}
+use Rattle.tta_arch.specs.Effects.{kept as lookup}
 use Rattle.tta_overlap.proofs.Total.{wants, do_moves, Timed, reads_by, writes_by, is_control}
-use Rattle.tta_code.specs.declared.code.Code.{Code}
-use Rattle.tta_code.specs.declared.code.Instruction.{Instruction}
 use Rattle.tta_code.specs.Cycle as machine
 use Rattle.tta_overlap.proofs.Pick.{Has}
 use Rattle.tta_overlap.proofs.Steps.{offset, offset_of, IsPlain}

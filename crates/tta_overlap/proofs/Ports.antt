@@ -3,8 +3,8 @@ use Rattle.std.proofs.Common.{◌≡◌, ◌≢◌, ◌⊎◌, inl, inr, ℕ, su
 use Rattle.std.specs.Prelude.{◌==◌, ◌&&◌, ◌||◌, if◌then◌else◌, fold}
 use Rattle.std.specs.List.{list_any}
 use Rattle.std.proofs.lemmas.Bool.Decides.{nat_tests}
-use Rattle.tta_arch.specs.Effects.{or_else, first_some as pick}
-use Rattle.tta_code.specs.Cycle.{Result', later}
+use Rattle.tta_overlap.specs.Cited.{or_else, Result', later}
+use Rattle.tta_arch.specs.Effects.{first_some as pick}
 use Rattle.tta_overlap.proofs.Pick.{Has}
 
 -- the result of a unit that is due at a moment

@@ -3,9 +3,8 @@ use Rattle.std.proofs.Common.{◌≡◌, ◌≢◌, inl, inr, ℕ, suc, ◌+◌,
 use Rattle.std.specs.Prelude.{slice_index, option_and_then, if◌then◌else◌, fold}
 use Rattle.std.specs.Option.{option_map_or}
 use Rattle.std.specs.List.{filter_map}
-use Rattle.tta_arch.specs.Effects.{Effect, KeptPort, kept as lookup, moved, bring, Start, start_of, or_else, first_some as pick}
-use Rattle.tta_code.specs.Cycle.{Result', later, port, result_of, read_source}
-use Rattle.tta_moves.specs.Meaning.{Held}
+use Rattle.tta_overlap.specs.Cited.{Effect, KeptPort, moved, bring, Start, start_of, or_else, Result', later, port, result_of, read_source, Held}
+use Rattle.tta_arch.specs.Effects.{kept as lookup, first_some as pick}
 use Rattle.tta_overlap.proofs.Cut.{IsCut, Right, goes_on}
 use Rattle.tta_overlap.proofs.Pick.{Has, pick_none, pick_one, has_filter_map}
 use Rattle.tta_overlap.proofs.Ports.{due_then, port_next, port_early, past_none}

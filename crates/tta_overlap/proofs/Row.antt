@@ -4,22 +4,11 @@ use Rattle.std.proofs.Common.{◌≡◌, ◌≢◌, inl, inr, ℕ, suc, ◌+◌,
 use Rattle.std.specs.Prelude.{slice_get, slice_index, IsTrue}
 use Rattle.std.specs.Option.{option_map_or}
 use Rattle.std.specs.List.{AllByRecursion}
-use Rattle.tta_list.specs.Iterate.{iterate}
-use Rattle.tta_arch.specs.Machine.{Machine}
-use Rattle.tta_arch.specs.Rules.{IsMachine}
-use Rattle.tta_arch.specs.Effects.{Jumps, Calls, Halts, Effect}
-use Rattle.tta_ops.specs.Units.{Units}
-use Rattle.tta_code.specs.declared.code.Instruction.{Instruction}
-use Rattle.tta_code.specs.declared.code.Code.{Code}
-use Rattle.tta_code.specs.Legal.{is_legal}
+use Rattle.tta_overlap.specs.Cited.{iterate, Machine, IsMachine, Jumps, Calls, Halts, Effect, Units, Instruction, Code, is_legal, State, next, Placed, BlockList, Exit, Next, Leaves, is_waiting, Held, means, Leave, ToBlock, ToNowhere, Undefined, leg, block_at, restart, leave_of, go_list}
 use Rattle.tta_code.specs.Cycle as machine
-use Rattle.tta_code.specs.Cycle.{State, next}
-use Rattle.tta_moves.specs.declared.items.Placed.{Placed}
-use Rattle.tta_moves.specs.declared.items.BlockList.{BlockList}
-use Rattle.tta_moves.specs.Meaning.{Exit, Next, Leaves, Waits as Stops, is_waiting, Held, means}
-use Rattle.tta_list.specs.Legs.{Leave, ToBlock, ToNowhere, Run, Running, Halted, Waiting, Undefined, leg}
+use Rattle.tta_moves.specs.Meaning.{Waits as Stops}
+use Rattle.tta_list.specs.Legs.{Run, Running, Halted, Waiting}
 use Rattle.tta_list.proofs.Iterated.{iterate-add}
-use Rattle.tta_moves.specs.Runs.{block_at, restart, leave_of, go_list}
 use Rattle.tta_overlap.specs.Overlap.{IsPlaced}
 use Rattle.tta_overlap.proofs.Total.{do_moves, has_meaning, waits_at}
 use Rattle.tta_overlap.proofs.Items.{timed, nth}

@@ -6,15 +6,7 @@ use Rattle.std.proofs.lemmas.Bool.{cases_lt}
 use Rattle.std.proofs.lemmas.Option.{slice_get-get_or, slice_get-map, slice_get_within}
 use Rattle.std.proofs.lemmas.List.FromFn.{length-map-range_with_len}
 use Rattle.tta_list.proofs.Lists.{slice_get-front, slice_get-back}
-use Rattle.tta_arch.specs.Machine.{Machine}
-use Rattle.tta_code.specs.declared.code.Instruction.{Instruction}
-use Rattle.tta_code.specs.declared.code.Code.{Code}
-use Rattle.tta_moves.specs.declared.items.BlockList.{BlockList}
-use Rattle.tta_moves.specs.declared.items.Placed.{Placed}
-use Rattle.tta_moves.specs.Bounds.{in_cycle}
-use Rattle.tta_moves.specs.Slots.{control_is_last}
-use Rattle.tta_moves.specs.Runs.{AreAddresses}
-use Rattle.tta_link.specs.Linked.{instruction_of, starts_from, block_words, IsLinked}
+use Rattle.tta_overlap.specs.Cited.{Machine, Instruction, Code, BlockList, Placed, in_cycle, control_is_last, AreAddresses, instruction_of, starts_from, block_words, IsLinked}
 use Rattle.tta_overlap.specs.Overlap.{IsPlaced, ArePlaced}
 use Rattle.tta_overlap.proofs.Found.{range_has}
 use Rattle.tta_overlap.proofs.Bounds.{bounds_keep}

@@ -5,22 +5,10 @@ use Rattle.std.specs.List.{list_any}
 use Rattle.std.proofs.lemmas.Bool.{cases_lt, and_parts}
 use Rattle.std.proofs.lemmas.Bool.Decides.{nat_tests}
 use Rattle.tta_list.proofs.Lists.{some_within}
-use Rattle.tta_arch.specs.declared.ends.Dest.{Dest}
+use Rattle.tta_overlap.specs.Cited.{Dest, Op, Ldw, Stw, Ldf, Stf, Out, Take, Set, UnitOp, Machine, is_source_on, is_dest_on, has_guard, has_socket, within, IsMachine, is_from_to, fits_kind, is_data_op, is_frame_op, is_stream_op, has_one_owner, target_of, op_at, has_result, Item, Slot, Bus, Template, target_of_item, carried, carries}
 use Rattle.tta_arch.specs.declared.ends.Dest.TheVariants as dest
-use Rattle.tta_arch.specs.declared.parts.Op.{Op}
-use Rattle.tta_arch.specs.declared.parts.Op.TheVariants.{Ldw, Stw, Ldf, Stf, Out, Take, Set}
-use Rattle.tta_arch.specs.declared.parts.UnitOp.{UnitOp}
 use Rattle.tta_arch.specs.declared.parts.Unit.{Unit as OpUnit}
-use Rattle.tta_arch.specs.Machine.{Machine}
-use Rattle.tta_arch.specs.Joins.{is_source_on, is_dest_on, has_guard, has_socket, within}
-use Rattle.tta_arch.specs.Rules.{IsMachine, is_from_to, fits_kind, is_data_op, is_frame_op, is_stream_op, has_one_owner}
-use Rattle.tta_arch.specs.Effects.{target_of, op_at, has_result}
-use Rattle.tta_moves.specs.declared.items.Item.{Item}
 use Rattle.tta_moves.specs.declared.items.Item.TheVariants as item
-use Rattle.tta_moves.specs.declared.items.Slot.{Slot}
-use Rattle.tta_moves.specs.declared.items.Slot.TheVariants.{Bus, Template}
-use Rattle.tta_moves.specs.Touches.{target_of_item}
-use Rattle.tta_moves.specs.Slots.{carried, carries}
 use Rattle.tta_overlap.proofs.Steps.{IsPlain, to_register, to_imm, to_operand, to_trigger, to_jump, to_call, to_halt}
 use Rattle.tta_overlap.specs.Overlap.{space_of}
 use Rattle.tta_overlap.proofs.Spaces.{HasOwners}

@@ -2,25 +2,15 @@
 use Rattle.std.proofs.Common.{◌≡◌, ◌≢◌, ◌⊎◌, inl, inr, ℕ, zero, suc, ◌+◌, ◌<◌, ◌≤◌, Bool, true, false, List, [], ◌∷◌, ◌++◌, Option, Some, None, refl, sym, ap, subst, ◌∙◌, arith, length, take, drop, replicate, ◌*◌, drop_of_length-le}
 use Rattle.std.specs.Prelude.{slice_get, slice_index, IsTrue}
 use Rattle.std.specs.List.{AllByRecursion}
-use Rattle.tta_list.specs.Iterate.{iterate}
-use Rattle.tta_arch.specs.Machine.{Machine}
-use Rattle.tta_arch.specs.Rules.{IsMachine}
-use Rattle.tta_ops.specs.Units.{Units}
-use Rattle.tta_code.specs.declared.code.Instruction.{Instruction}
-use Rattle.tta_code.specs.declared.code.Code.{Code}
-use Rattle.tta_code.specs.Legal.{is_legal}
+use Rattle.tta_overlap.specs.Cited.{iterate, Machine, IsMachine, Units, Instruction, Code, is_legal, State, next, BlockList, Next, is_waiting, Held, does_all, means, Leave, ToNext, ToBlock, ToHalt, ToWait, ToNowhere, Undefined, leg, next_leg, restart, leave_of, go_list, lrun}
 use Rattle.tta_code.specs.Cycle as machine
-use Rattle.tta_code.specs.Cycle.{State, next}
-use Rattle.tta_moves.specs.declared.items.BlockList.{BlockList}
-use Rattle.tta_moves.specs.Meaning.{Next, Waits as Stops, is_waiting, Held, does_all, means}
-use Rattle.tta_list.specs.Legs.{Leave, ToNext, ToBlock, ToHalt, ToWait, ToNowhere, Run, Running, Halted, Waiting, Undefined, leg, next_leg}
+use Rattle.tta_moves.specs.Meaning.{Waits as Stops}
+use Rattle.tta_list.specs.Legs.{Run, Running, Halted, Waiting}
 use Rattle.tta_list.proofs.Iterated.{iterate-add}
-use Rattle.tta_moves.specs.Runs.{restart, leave_of, go_list}
 use Rattle.tta_overlap.proofs.Total.{do_moves, waits_at}
 use Rattle.std.proofs.lemmas.List.{length-drop}
 use Rattle.std.proofs.lemmas.Bool.{cases_lt}
 use Rattle.std.proofs.Math.Nat.{mul-suc}
-use Rattle.tta_moves.specs.Runs.{lrun}
 use Rattle.tta_overlap.proofs.Padded.{pad}
 use Rattle.tta_overlap.proofs.Leg.{es_of, padded, went, nowhere, go_pad, go_is, go_not, onto, leg_onto}
 use Rattle.tta_overlap.proofs.Padded.{all_wait}

@@ -3,29 +3,11 @@
 use Rattle.std.proofs.Common.{◌≡◌, ℕ, zero, suc, ◌≤◌, true, false, List, [], ◌∷◌, Some, None, refl, subst, arith, lit≤, take}
 use Rattle.std.specs.Prelude.{slice_get, ◌==◌}
 use Rattle.std.proofs.lemmas.Bool.Decides.{nat_tests}
-use Rattle.tta_list.specs.Iterate.{iterate}
-use Rattle.tta_ops.specs.Units.{Units}
+use Rattle.tta_overlap.specs.Cited.{iterate, Units, can_move, IsMachine, Place, kept, Code, is_legal, State, start, next, Port, Item, Bus, PlacedItem, Placed, BlockList, Held, does, lacks, do_items, begin, fits_cycle, least, in_cycle, block_words, HoldsBlock}
 use Rattle.tta_arch.specs.declared.ends.Source.TheVariants as source
 use Rattle.tta_arch.specs.declared.ends.Dest.TheVariants as dest
-use Rattle.tta_arch.specs.Legal.{can_move}
 use Rattle.tta_arch.proofs.Samples.{with_input}
-use Rattle.tta_arch.specs.Rules.{IsMachine}
-use Rattle.tta_arch.specs.Effects.{Place, kept}
-use Rattle.tta_code.specs.declared.code.Code.{Code}
-use Rattle.tta_code.specs.Legal.{is_legal}
-use Rattle.tta_code.specs.Cycle.{State, start, next}
-use Rattle.tta_moves.specs.declared.items.ItemSource.TheVariants.{Port}
-use Rattle.tta_moves.specs.declared.items.Item.{Item}
 use Rattle.tta_moves.specs.declared.items.Item.TheVariants.{Move}
-use Rattle.tta_moves.specs.declared.items.Slot.TheVariants.{Bus}
-use Rattle.tta_moves.specs.declared.items.PlacedItem.{PlacedItem}
-use Rattle.tta_moves.specs.declared.items.Placed.{Placed}
-use Rattle.tta_moves.specs.declared.items.BlockList.{BlockList}
-use Rattle.tta_moves.specs.Meaning.{Held, does, lacks, do_items}
-use Rattle.tta_moves.specs.Runs.{begin}
-use Rattle.tta_moves.specs.Slots.{fits_cycle}
-use Rattle.tta_moves.specs.Bounds.{least, in_cycle}
-use Rattle.tta_link.specs.Linked.{block_words, HoldsBlock}
 use Rattle.tta_overlap.specs.Overlap.{word_in, Covers, Holds, Stops, IsPlaced, AreLegal, MeansWithMore, Overlaps}
 use Rattle.tta_moves.proofs.FirstFitLaws.{nothing_fits}
 use Rattle.tta_overlap.proofs.Theorem.{overlaps}

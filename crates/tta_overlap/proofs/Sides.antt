@@ -4,11 +4,10 @@ use Rattle.std.specs.Prelude.{nat_le, ◌&&◌, ◌==◌}
 use Rattle.std.specs.List.{list_all}
 use Rattle.std.proofs.lemmas.Bool.{cases_lt}
 use Rattle.std.proofs.lemmas.Bool.Decides.{nat_tests}
-use Rattle.tta_ops.specs.Units.{Units}
-use Rattle.tta_arch.specs.Machine.{Machine}
-use Rattle.tta_arch.specs.Effects.{Jumps, Calls, Halts, Effect, Place, KeptReg, KeptImm, KeptOperand, KeptRa, KeptPort, kept, or_else, first_some as pick}
-use Rattle.tta_code.specs.Cycle.{State, Result', Running}
-use Rattle.tta_moves.specs.Meaning.{Exit, Next, Leaves, Waits as Stopped, is_waiting, Held}
+use Rattle.tta_overlap.specs.Cited.{Units, Machine, Jumps, Calls, Halts, Effect, Place, KeptReg, KeptImm, KeptOperand, KeptRa, KeptPort, kept, or_else, State, Result', Exit, Next, Leaves, is_waiting, Held}
+use Rattle.tta_arch.specs.Effects.{first_some as pick}
+use Rattle.tta_code.specs.Cycle.{Running}
+use Rattle.tta_moves.specs.Meaning.{Waits as Stopped}
 use Rattle.tta_overlap.proofs.Total.{do_move, wants, waits_at}
 use Rattle.tta_overlap.specs.Overlap.{word_in, Covers, Holds, IsLeft}
 use Rattle.tta_overlap.proofs.Ports.{due_then}

@@ -7,14 +7,7 @@ use Rattle.std.specs.Option.{option_map_or}
 use Rattle.std.specs.List.{filter_map, cons_option}
 use Rattle.std.proofs.lemmas.Bool.Decides.{nat_tests}
 use Rattle.std.proofs.lemmas.Option.{same_Some}
-use Rattle.tta_arch.specs.declared.parts.Op.{Op}
-use Rattle.tta_arch.specs.declared.parts.Op.TheVariants.{Ldw, Stw, Ldf, Stf, Out, Take, Set}
-use Rattle.tta_arch.specs.declared.parts.UnitOp.{UnitOp}
-use Rattle.tta_arch.specs.Machine.{Machine}
-use Rattle.tta_arch.specs.Effects.{Target, Trigger, Effect, Written, Reads, moved, bring, Start, start_of, store_data, store_frame, put_out, takes, takes_in, take_in, op_at}
-use Rattle.tta_ops.specs.Units.{Units}
-use Rattle.tta_moves.specs.Meaning.{Held, read_held}
-use Rattle.tta_moves.specs.Bounds.{Started}
+use Rattle.tta_overlap.specs.Cited.{Op, Ldw, Stw, Ldf, Stf, Out, Take, Set, UnitOp, Machine, Target, Trigger, Effect, Written, Reads, moved, bring, Start, start_of, store_data, store_frame, put_out, takes, takes_in, take_in, op_at, Units, Held, read_held, Started}
 use Rattle.tta_overlap.proofs.Total.{do_move, total, started_by, wants, writes_by}
 use Rattle.tta_overlap.proofs.Touches.{started_is}
 use Rattle.tta_overlap.proofs.Steps.{offset_of, IsPlain, to_register, to_imm, to_operand, to_trigger, to_jump, to_call, to_halt, starting, bringing}

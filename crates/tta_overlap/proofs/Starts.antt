@@ -5,12 +5,8 @@ use Rattle.std.specs.Option.{option_map_or}
 use Rattle.std.specs.List.{filter_map}
 use Rattle.std.proofs.lemmas.Bool.Decides.{nat_tests}
 use Rattle.std.proofs.lemmas.Option.{same_Some}
-use Rattle.tta_arch.specs.declared.parts.UnitOp.{UnitOp}
-use Rattle.tta_arch.specs.Machine.{Machine}
-use Rattle.tta_arch.specs.Effects.{Target, Trigger, Effect, Place, KeptReg, KeptImm, KeptOperand, KeptRa, KeptPort, same_place, Written, kept as lookup, Reads, moved, bring, write_of, Start, start_of, operand_of, has_result, result_word, lacks_operand, or_else, first_some as pick}
-use Rattle.tta_ops.specs.Units.{Units}
-use Rattle.tta_code.specs.Cycle.{State, Result', result_of}
-use Rattle.tta_moves.specs.Bounds.{At, Started}
+use Rattle.tta_overlap.specs.Cited.{UnitOp, Machine, Target, Trigger, Effect, Place, KeptReg, KeptImm, KeptOperand, KeptRa, KeptPort, Written, Reads, moved, bring, write_of, Start, start_of, operand_of, has_result, result_word, lacks_operand, or_else, Units, State, Result', result_of, At, Started}
+use Rattle.tta_arch.specs.Effects.{same_place, kept as lookup, first_some as pick}
 use Rattle.tta_overlap.proofs.Total.{writes_by}
 use Rattle.tta_overlap.proofs.Pick.{pick_same, and_then_assoc, pick-append, pick-filter_map}
 use Rattle.tta_overlap.proofs.Ports.{due_then}

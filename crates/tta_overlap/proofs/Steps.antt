@@ -3,12 +3,8 @@ use Rattle.std.proofs.Common.{◌≡◌, ℕ, ◌<◌, Bool, true, false, List, 
 use Rattle.std.specs.Prelude.{slice_index, option_and_then, ◌==◌, ◌&&◌, if◌then◌else◌}
 use Rattle.std.specs.Option.{option_map_or}
 use Rattle.std.proofs.lemmas.Bool.Decides.{nat_tests}
-use Rattle.tta_arch.specs.declared.parts.UnitOp.{UnitOp}
-use Rattle.tta_arch.specs.Machine.{Machine}
-use Rattle.tta_arch.specs.Effects.{Kind, Jumps, Calls, Halts, Target, Reg, Imm, Operand, Trigger, Control, Effect, Place, KeptReg, KeptImm, KeptOperand, KeptRa, KeptPort, same_place, Written, kept as lookup, moved, Brought, write_of, Start, start_of, has_result, result_word, op_at, control_of, or_else, first_some as pick}
-use Rattle.tta_ops.specs.Units.{Units}
-use Rattle.tta_moves.specs.Meaning.{Held, read_held, exit_after}
-use Rattle.tta_moves.specs.Bounds.{Spot, At, same_spot, Touch}
+use Rattle.tta_overlap.specs.Cited.{UnitOp, Machine, Kind, Jumps, Calls, Halts, Target, Reg, Imm, Operand, Trigger, Control, Effect, Place, KeptReg, KeptImm, KeptOperand, KeptRa, KeptPort, Written, moved, Brought, write_of, Start, start_of, has_result, result_word, op_at, control_of, or_else, Units, Held, read_held, exit_after, Spot, At, same_spot, Touch}
+use Rattle.tta_arch.specs.Effects.{same_place, kept as lookup, first_some as pick}
 use Rattle.tta_overlap.proofs.Total.{do_move, total, writes_by, is_control}
 use Rattle.tta_moves.proofs.Places.{either}
 

@@ -5,19 +5,10 @@ use Rattle.std.proofs.lemmas.Bool.Decides.{nat_tests}
 use Rattle.std.proofs.lemmas.List.{take-map}
 use Rattle.std.proofs.lemmas.Option.{slice_get-get_or, get_or_from_slice_get, slice_get_within}
 use Rattle.tta_list.proofs.Prefixes.{prefix_chain, prefix_same}
-use Rattle.tta_list.specs.Iterate.{iterate}
-use Rattle.tta_ops.specs.Units.{Units}
-use Rattle.tta_arch.specs.Machine.{Machine}
-use Rattle.tta_arch.specs.Rules.{IsMachine}
-use Rattle.tta_arch.specs.Effects.{Effect, Place, KeptReg, KeptImm, KeptOperand, KeptRa, KeptPort, kept}
-use Rattle.tta_code.specs.declared.code.Code.{Code}
-use Rattle.tta_code.specs.Cycle.{State, Running, next, read_source}
-use Rattle.tta_moves.specs.declared.items.PlacedItem.{PlacedItem}
-use Rattle.tta_moves.specs.declared.items.Placed.{Placed}
-use Rattle.tta_moves.specs.declared.items.BlockList.{BlockList}
-use Rattle.tta_moves.specs.Meaning.{does_all, Next, Waits as Stopped, is_waiting, Held, read_held, effect_of, do_items}
-use Rattle.tta_moves.specs.Touches.{target_of_item}
-use Rattle.tta_moves.specs.Bounds.{At, writes_by as item_writes}
+use Rattle.tta_overlap.specs.Cited.{iterate, Units, Machine, IsMachine, Effect, Place, KeptReg, KeptImm, KeptOperand, KeptRa, KeptPort, kept, Code, State, next, read_source, PlacedItem, Placed, BlockList, does_all, Next, is_waiting, Held, read_held, effect_of, do_items, target_of_item, At}
+use Rattle.tta_code.specs.Cycle.{Running}
+use Rattle.tta_moves.specs.Meaning.{Waits as Stopped}
+use Rattle.tta_moves.specs.Bounds.{writes_by as item_writes}
 use Rattle.tta_overlap.proofs.Total.{do_moves, has_meaning, waits_at, Timed}
 use Rattle.tta_overlap.specs.Overlap.{IsPlaced, word_in, Covers, Holds, IsLeft, moment_of, space_by, ShowBy, DoneBy, FindsIts, IsInCycle, Ends, Stops, Overlaps, AreLegal, MeansWithMore}
 use Rattle.tta_overlap.proofs.Cut.{IsCut, cut_exists}

@@ -2,12 +2,8 @@
 -- its effects want such a word.
 use Rattle.std.specs.Prelude.{ℕ, suc, Bool, true, false, not, ◌&&◌, if◌then◌else◌, List, [], ◌∷◌, ◌++◌, fold, Option, Some, None, is_none, slice_get}
 use Rattle.std.specs.Option.{option_map_or, option_to_list}
-use Rattle.tta_ops.specs.Units.{Units}
-use Rattle.tta_arch.specs.Machine.{Machine}
-use Rattle.tta_arch.specs.Effects.{Target, Control, Effect, KeptReg, Brought, bring, Start, start_of, takes}
-use Rattle.tta_moves.specs.Meaning.{Held, read_held, acts, lacks}
-use Rattle.tta_moves.specs.Touches.{place_of}
-use Rattle.tta_moves.specs.Bounds.{Touch, At, operand_read, written_at}
+use Rattle.tta_overlap.specs.Cited.{Units, Machine, Target, Control, Effect, KeptReg, Brought, bring, Start, start_of, takes, Held, read_held, lacks, place_of, Touch, At, operand_read, written_at}
+use Rattle.tta_moves.specs.Meaning.{acts}
 
 -- the operation that a brought word starts
 abbrev pub started_by : Machine → Held → Option Brought → Option Start

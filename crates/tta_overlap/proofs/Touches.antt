@@ -3,14 +3,9 @@ use Rattle.std.proofs.Common.{◌≡◌, ◌⊎◌, inl, inr, ℕ, ◌<◌, Bool
 use Rattle.std.specs.Prelude.{option_and_then, ◌&&◌, ◌||◌, is_none, if◌then◌else◌}
 use Rattle.std.specs.Option.{option_map_or}
 use Rattle.std.proofs.lemmas.Bool.{or_parts}
-use Rattle.tta_arch.specs.declared.ends.GuardRef.{GuardRef}
-use Rattle.tta_arch.specs.declared.ends.Source.{Source}
+use Rattle.tta_overlap.specs.Cited.{GuardRef, Source, Machine, Target, Trigger, Effect, Place, KeptReg, KeptImm, KeptOperand, KeptRa, KeptPort, Reads, is_active, moved, bring, Brought, start_of, has_result, has_unset_guard, has_unset, is_register, is_port, lacks_operand, or_else, Held, read_held, lacks, place_of, At, Started, Touch, operand_read}
 use Rattle.tta_arch.specs.declared.ends.Source.TheVariants as source
-use Rattle.tta_arch.specs.Machine.{Machine}
-use Rattle.tta_arch.specs.Effects.{Target, Trigger, Effect, Place, KeptReg, KeptImm, KeptOperand, KeptRa, KeptPort, same_place, Reads, is_active, moved, bring, Brought, start_of, has_result, has_unset_guard, has_unset, is_register, is_port, lacks_operand, or_else}
-use Rattle.tta_moves.specs.Meaning.{Held, read_held, lacks}
-use Rattle.tta_moves.specs.Touches.{place_of}
-use Rattle.tta_moves.specs.Bounds.{At, Started, Touch, operand_read}
+use Rattle.tta_arch.specs.Effects.{same_place}
 use Rattle.tta_overlap.proofs.Total.{started_by, reads_by, writes_by}
 use Rattle.tta_overlap.proofs.Steps.{offset, IsPlain, to_register, to_imm, to_operand, to_trigger, to_jump, to_call, to_halt, starting}
 use Rattle.tta_moves.proofs.Places.{same_self, either}

@@ -3,10 +3,9 @@ use Rattle.std.proofs.Common.{◌≡◌, ◌⊎◌, inl, inr, ℕ, zero, suc, �
 use Rattle.std.specs.Prelude.{slice_get, ◌==◌, ◌&&◌, is_none, if◌then◌else◌, fold}
 use Rattle.std.specs.List.{filter_map, list_any}
 use Rattle.std.proofs.lemmas.Bool.{cases_lt}
-use Rattle.tta_arch.specs.Machine.{Machine}
-use Rattle.tta_arch.specs.Effects.{Kind, Jumps, Calls, Halts, Written, Brought, Start, has_result, result_word, store_data, store_frame, put_out, takes, take_in, control_of, first_some as pick}
-use Rattle.tta_ops.specs.Units.{Units}
-use Rattle.tta_code.specs.Cycle.{State, Running, Result', result_of, pending_after, lands, acts as act_cycle, next}
+use Rattle.tta_overlap.specs.Cited.{Machine, Kind, Jumps, Calls, Halts, Written, Brought, Start, has_result, result_word, store_data, store_frame, put_out, takes, take_in, control_of, Units, State, Result', result_of, pending_after, lands, next}
+use Rattle.tta_arch.specs.Effects.{first_some as pick}
+use Rattle.tta_code.specs.Cycle.{Running, acts as act_cycle}
 use Rattle.tta_code.specs.Cycle as machine
 use Rattle.tta_overlap.proofs.Padded.{first_pad, left_pad}
 use Rattle.tta_overlap.proofs.Pick.{Has, any_has}

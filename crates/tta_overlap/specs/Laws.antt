@@ -2,20 +2,8 @@
 -- with the program.
 use Rattle.std.specs.Prelude.{◌≡◌, ℕ, ◌+◌, ◌<◌, ◌^◌, List}
 use Rattle.std.specs.List.{AllByRecursion}
-use Rattle.tta_ops.specs.Units.{Units}
-use Rattle.tta_arch.specs.Machine.{Machine}
-use Rattle.tta_arch.specs.Rules.{IsMachine}
-use Rattle.tta_list.specs.Laid.{over}
-use Rattle.tta_program.specs.Program.{Program, data_of}
-use Rattle.tta_code.specs.declared.code.Code.{Code}
-use Rattle.tta_code.specs.Legal.{IsLegalCode}
-use Rattle.tta_code.specs.Whole.{Whole, data_in}
-use Rattle.tta_code.specs.Cycle.{State, Running}
-use Rattle.tta_agree.specs.Agrees.{Agrees}
-use Rattle.tta_moves.specs.declared.items.BlockList.{BlockList}
-use Rattle.tta_moves.specs.declared.items.Placed.{Placed}
-use Rattle.tta_moves.specs.Meaning.{Next, Held}
-use Rattle.tta_link.specs.Linked.{IsLinked}
+use Rattle.tta_overlap.specs.Cited.{Units, Machine, IsMachine, over, Program, data_of, Code, IsLegalCode, Whole, data_in, State, Agrees, BlockList, Placed, Next, Held, IsLinked}
+use Rattle.tta_code.specs.Cycle.{Running}
 use Rattle.tta_overlap.specs.Means.{Means}
 use Rattle.tta_overlap.specs.Overlap.{AreLegal, IsPlaced, MeansWithMore, Holds, Overlaps, ArePlaced}
 

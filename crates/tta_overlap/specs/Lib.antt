@@ -1,3 +1,4 @@
+pub mod Cited
 pub mod Means
 pub mod Overlap
 pub mod Laws

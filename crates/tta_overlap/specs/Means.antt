@@ -1,17 +1,9 @@
 -- When the lists of a program's blocks do what the program does.
 use Rattle.std.specs.Prelude.{◌≡◌, ◌≢◌, ℕ, ◌+◌, ◌*◌, List, length}
-use Rattle.tta_list.specs.Prefix.{IsPrefixOf}
-use Rattle.tta_ops.specs.Units.{Units}
-use Rattle.tta_arch.specs.Machine.{Machine}
-use Rattle.tta_program.specs.Program.{Program, step_count}
+use Rattle.tta_overlap.specs.Cited.{IsPrefixOf, Units, Machine, Program, step_count, seq, BlockList, Held, AreAddresses, lrun, IsGiven}
 use Rattle.tta_program.specs.Sequential as program
-use Rattle.tta_program.specs.Sequential.{seq}
-use Rattle.tta_moves.specs.declared.items.BlockList.{BlockList}
-use Rattle.tta_moves.specs.Meaning.{Held}
 use Rattle.tta_list.specs.Legs as legs
 use Rattle.tta_list.specs.Legs.{Run}
-use Rattle.tta_moves.specs.Runs.{AreAddresses, lrun}
-use Rattle.tta_agree.specs.Agrees.{IsGiven}
 
 -- both runs have halted, with the same memory, output and rest of the input
 pub record HaltAlike (s : program.State) (r : Run Held) : Type 0 where

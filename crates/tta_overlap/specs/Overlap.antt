@@ -2,26 +2,11 @@
 use Rattle.std.specs.Prelude.{option_map, ◌≡◌, ℕ, suc, ◌+◌, ◌<◌, ◌≤◌, true, false, if◌then◌else◌, nat_le, List, ◌++◌, length, map, take, replicate, Option, Some, None, slice_get, IsTrue}
 use Rattle.std.specs.Option.{option_map_or}
 use Rattle.std.specs.List.{list_all, AllByRecursion}
-use Rattle.tta_list.specs.Prefix.{IsPrefixOf}
-use Rattle.tta_list.specs.Iterate.{iterate}
-use Rattle.tta_ops.specs.Units.{Units}
-use Rattle.tta_arch.specs.declared.parts.Op.{Op}
-use Rattle.tta_arch.specs.declared.parts.Op.TheVariants.{Ldw, Stw, Ldf, Stf, Out, Take, Set}
-use Rattle.tta_arch.specs.declared.ends.GuardRef.{GuardRef}
+use Rattle.tta_overlap.specs.Cited.{IsPrefixOf, iterate, Units, Op, Ldw, Stw, Ldf, Stf, Out, Take, Set, GuardRef, Machine, Jumps, Calls, Halts, Target, Reg, Imm, Operand, Trigger, Control, Effect, Place, KeptReg, KeptImm, KeptOperand, KeptRa, KeptPort, Reads, kept, is_active, op_at, first_some, Code, is_legal, State, next, port, read_source, BlockList, PlacedItem, Placed, target_of_item, Exit, Next, Leaves, is_waiting, Held, read_held, effect_of, do_items, Spot, At, same_spot, Touch, Respects, control_is_last, HoldsBlock}
 use Rattle.tta_arch.specs.declared.ends.Source.TheVariants as source
-use Rattle.tta_arch.specs.Machine.{Machine}
-use Rattle.tta_arch.specs.Effects.{Jumps, Calls, Halts, Target, Reg, Imm, Operand, Trigger, Control, Effect, Place, KeptReg, KeptImm, KeptOperand, KeptRa, KeptPort, Reads, kept, is_active, op_at, first_some}
-use Rattle.tta_code.specs.declared.code.Code.{Code}
-use Rattle.tta_code.specs.Legal.{is_legal}
-use Rattle.tta_code.specs.Cycle.{State, Running, Halted, Waiting, next, port, read_source}
-use Rattle.tta_moves.specs.declared.items.BlockList.{BlockList}
-use Rattle.tta_moves.specs.declared.items.PlacedItem.{PlacedItem}
-use Rattle.tta_moves.specs.declared.items.Placed.{Placed}
-use Rattle.tta_moves.specs.Touches.{target_of_item}
-use Rattle.tta_moves.specs.Meaning.{Exit, Next, Leaves, Waits, is_waiting, Held, read_held, effect_of, do_items, has_meaning}
-use Rattle.tta_moves.specs.Bounds.{Spot, At, same_spot, Touch, writes_by, Respects}
-use Rattle.tta_moves.specs.Slots.{control_is_last}
-use Rattle.tta_link.specs.Linked.{HoldsBlock}
+use Rattle.tta_code.specs.Cycle.{Running, Halted, Waiting}
+use Rattle.tta_moves.specs.Meaning.{Waits, has_meaning}
+use Rattle.tta_moves.specs.Bounds.{writes_by}
 
 -- ---- a machine and a list
 

@@ -3,13 +3,7 @@ use Rattle.std.proofs.Common.{◌≡◌, ℕ, ◌+◌, Bool, true, false, List, 
 use Rattle.std.specs.Prelude.{fold, if◌then◌else◌, slice_get}
 use Rattle.std.specs.Option.{option_map_or}
 use Rattle.std.specs.List.{filter_map}
-use Rattle.tta_ops.specs.Units.{Units}
-use Rattle.tta_arch.specs.Machine.{Machine}
-use Rattle.tta_arch.specs.Effects.{Brought, Start, Written, bring, write_of, start_of, first_some, control_of, store_data, store_frame, take_in, put_out}
-use Rattle.tta_code.specs.declared.code.Code.{Code}
-use Rattle.tta_code.specs.declared.code.Instruction.{Instruction}
-use Rattle.tta_code.specs.Cycle.{State, Running, next, next_of, carry_out, or_fault, or_wait, acts, waits, fault_of, effects_of, read_source, result_of, pending_after}
-use Rattle.tta_sim.specs.Held.{is_halted}
+use Rattle.tta_places.specs.Cited.{Units, Machine, Brought, Start, Written, bring, write_of, start_of, first_some, control_of, store_data, store_frame, take_in, put_out, Code, Instruction, State, Running, next, next_of, carry_out, or_fault, or_wait, acts, waits, fault_of, effects_of, read_source, result_of, pending_after, is_halted}
 use Rattle.tta_places.specs.Carried.{coming}
 use Rattle.tta_places.specs.Writes.{writes_in, cycle_writes}
 use Rattle.tta_places.proofs.Wrote.{written_in, lands_writes}

@@ -6,18 +6,8 @@ use Rattle.std.specs.List.{AllByRecursion}
 use Rattle.std.proofs.lemmas.Bool.{and_parts}
 use Rattle.std.proofs.lemmas.Option.{slice_get_within}
 use Rattle.tta_list.proofs.Lists.{all_one, all_weaker}
-use Rattle.tta_arch.specs.declared.ends.Dest.{Dest}
+use Rattle.tta_places.specs.Cited.{Dest, Template, Machine, IsMachine, KeptImm, Code, Instruction, Move, IsLegalCode, is_legal, IsPossible, is_askable, is_possible_slot, is_readable, is_reachable, is_place}
 use Rattle.tta_arch.specs.declared.ends.Dest.TheVariants as dest
-use Rattle.tta_arch.specs.declared.parts.Template.{Template}
-use Rattle.tta_arch.specs.Machine.{Machine}
-use Rattle.tta_arch.specs.Rules.{IsMachine}
-use Rattle.tta_arch.specs.Effects.{KeptImm}
-use Rattle.tta_code.specs.declared.code.Code.{Code}
-use Rattle.tta_code.specs.declared.code.Instruction.{Instruction}
-use Rattle.tta_code.specs.declared.code.Move.{Move}
-use Rattle.tta_code.specs.Legal.{IsLegalCode, is_legal}
-use Rattle.tta_sim.specs.Moves.{IsPossible, is_askable, is_possible_slot, is_readable, is_reachable}
-use Rattle.tta_sim.specs.Places.{is_place}
 use Rattle.tta_sim.proofs.Possible.{long_possible, possible}
 use Rattle.tta_places.specs.Carried.{slots_of}
 use Rattle.tta_places.specs.Written.{is_slot_written_to, is_written_to}

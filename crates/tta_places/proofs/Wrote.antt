@@ -4,14 +4,7 @@ use Rattle.std.specs.Prelude.{get_or, slice_get, option_to_list, option_and_then
 use Rattle.std.specs.Option.{option_map_or}
 use Rattle.std.specs.List.{filter_map, cons_option}
 use Rattle.std.proofs.lemmas.List.{append_assoc, drop_more, get_or-map}
-use Rattle.tta_arch.specs.declared.parts.Template.{Template}
-use Rattle.tta_arch.specs.Machine.{Machine}
-use Rattle.tta_arch.specs.Effects.{Kind, Jumps, Calls, Halts, Place, Effect, Written, KeptImm, long_effect, bring, moved, target_of, write_of}
-use Rattle.tta_code.specs.declared.code.Move.{Move}
-use Rattle.tta_code.specs.declared.code.Long.{Long}
-use Rattle.tta_code.specs.declared.code.Instruction.{Instruction}
-use Rattle.tta_code.specs.Cycle.{State, Pending, effect_of, effects_of, long_effects, read_source, lands, takes_effect}
-use Rattle.tta_sim.specs.Places.{HasWritten}
+use Rattle.tta_places.specs.Cited.{Template, Machine, Kind, Jumps, Calls, Halts, Place, Effect, Written, KeptImm, long_effect, bring, moved, target_of, write_of, Move, Long, Instruction, State, Pending, effect_of, effects_of, long_effects, read_source, lands, takes_effect, HasWritten}
 use Rattle.tta_places.specs.Carried.{carried}
 use Rattle.tta_places.specs.Writes.{slot_writes, moves_write, long_writes, writes_in}
 

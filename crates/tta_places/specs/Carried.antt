@@ -1,11 +1,7 @@
 -- The words that the moves of the next instruction carry.
 use Rattle.std.specs.Prelude.{ℕ, if◌then◌else◌, List, [], Option, None, slice_get, option_and_then}
 use Rattle.std.specs.Option.{option_map_or}
-use Rattle.tta_arch.specs.Effects.{moved}
-use Rattle.tta_code.specs.declared.code.Move.{Move}
-use Rattle.tta_code.specs.declared.code.Instruction.{Instruction}
-use Rattle.tta_code.specs.Cycle.{State, read_source, effect_of}
-use Rattle.tta_sim.specs.Held.{is_halted}
+use Rattle.tta_places.specs.Cited.{moved, Move, Instruction, State, read_source, effect_of, is_halted}
 
 -- the instruction that a state comes to: none where the run has halted
 abbrev pub coming : List Instruction → State → Option Instruction

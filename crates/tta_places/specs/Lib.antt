@@ -1,3 +1,4 @@
+pub mod Cited
 pub mod Carried
 pub mod Writes
 pub mod Written

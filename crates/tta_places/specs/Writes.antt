@@ -2,13 +2,7 @@
 use Rattle.std.specs.Prelude.{ℕ, ◌+◌, List, [], ◌++◌, Option, Some, option_to_list, option_and_then, slice_get}
 use Rattle.std.specs.Option.{option_map_or}
 use Rattle.std.specs.List.{flat_map}
-use Rattle.tta_arch.specs.Machine.{Machine}
-use Rattle.tta_arch.specs.Effects.{Written, KeptImm, target_of, write_of}
-use Rattle.tta_code.specs.declared.code.Move.{Move}
-use Rattle.tta_code.specs.declared.code.Long.{Long}
-use Rattle.tta_code.specs.declared.code.Instruction.{Instruction}
-use Rattle.tta_code.specs.declared.code.Code.{Code}
-use Rattle.tta_code.specs.Cycle.{State}
+use Rattle.tta_places.specs.Cited.{Machine, Written, KeptImm, target_of, write_of, Move, Long, Instruction, Code, State}
 use Rattle.tta_places.specs.Carried.{coming, carried}
 
 -- what the move of a slot writes where it carries a word

@@ -1,11 +1,8 @@
 -- Which places a move can write.
 use Rattle.std.specs.Prelude.{Bool, true, Option}
 use Rattle.std.specs.Option.{option_map_or}
-use Rattle.tta_arch.specs.declared.ends.Dest.{Dest}
+use Rattle.tta_places.specs.Cited.{Dest, KeptReg, KeptOperand, Move, is_place}
 use Rattle.tta_arch.specs.declared.ends.Dest.TheVariants as dest
-use Rattle.tta_arch.specs.Effects.{KeptReg, KeptOperand}
-use Rattle.tta_code.specs.declared.code.Move.{Move}
-use Rattle.tta_sim.specs.Places.{is_place}
 
 -- a destination whose place, if it has one, is there
 abbrev pub is_written_to : Dest → Bool

@@ -2,8 +2,7 @@
 use Rattle.std.proofs.Common.{◌≡◌, ℕ, suc, ◌+◌, Bool, true, false, List, ◌++◌, Option, refl, sym, ap, ◌∙◌, append-nil}
 use Rattle.std.specs.Prelude.{if◌then◌else◌}
 use Rattle.std.proofs.lemmas.List.{append_assoc}
-use Rattle.tta_code.specs.Cycle.{State}
-use Rattle.tta_profile.specs.Counts.{is_made}
+use Rattle.tta_play.specs.Cited.{State, is_made}
 use Rattle.tta_play.specs.States.{word_text, words_text, spaces_text, cycle_text, end_text, states_text}
 
 -- one word more was put

@@ -3,10 +3,7 @@ use Rattle.std.proofs.Common.{◌≡◌, ◌≤◌, true, List, [], ◌∷◌}
 use Rattle.std.specs.List.{list_all, All}
 use Rattle.std.proofs.lemmas.Bool.{and_parts}
 use Rattle.std.proofs.lemmas.List.Elements.{All-nil, All-cons}
-use Rattle.tta_arch.specs.declared.parts.ImmUnit.{ImmUnit}
-use Rattle.tta_arch.specs.declared.parts.Socket.{Socket}
-use Rattle.tta_arch.specs.Machine.{Machine}
-use Rattle.tta_arch.specs.Rules.{is_imm, IsMachine}
+use Rattle.tta_play.specs.Cited.{ImmUnit, Socket, Machine, is_imm, IsMachine}
 use Rattle.tta_arch.proofs.Sizes.{small_imm}
 
 -- each immediate unit has at most 16 registers

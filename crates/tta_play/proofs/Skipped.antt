@@ -1,18 +1,10 @@
 -- The cycles before those that a page plays.
 use Rattle.std.proofs.Common.{◌≡◌, ◌≤◌, inl, inr, ℕ, zero, suc, ◌+◌, Bool, false, List, ◌++◌, None, Some, refl, sym, ap, ◌∙◌, subst, arith}
 use Rattle.std.proofs.lemmas.Bool.{ne_eqb}
-use Rattle.tta_list.specs.Input.{left}
-use Rattle.tta_list.specs.Iterate.{iterate}
+use Rattle.tta_play.specs.Cited.{left, iterate, Units, Machine, Code, State, next, next_of, CycleStep, Ran, Held, Stands, GoesTo, IsAnswer, cycles_of, is_made, went_on}
 use Rattle.tta_list.proofs.Iterated.{iterate-more, iterate-still}
-use Rattle.tta_ops.specs.Units.{Units}
-use Rattle.tta_arch.specs.Machine.{Machine}
-use Rattle.tta_code.specs.declared.code.Code.{Code}
-use Rattle.tta_code.specs.Cycle.{State, Fault as HasFaulted, Halted as HasHalted, next, next_of}
-use Rattle.tta_sim.specs.declared.cycle_step.CycleStep.{CycleStep}
-use Rattle.tta_sim.specs.declared.cycle_step.CycleStep.TheVariants.{Ran, Halted, Waiting, Fault}
-use Rattle.tta_sim.specs.Held.{Held, Stands, GoesTo, IsAnswer, cycles_of}
-use Rattle.tta_profile.specs.Counts.{is_made}
-use Rattle.tta_profile.specs.Feed.{went_on}
+use Rattle.tta_code.specs.Cycle.{Fault as HasFaulted, Halted as HasHalted}
+use Rattle.tta_sim.specs.declared.cycle_step.CycleStep.TheVariants.{Halted, Waiting, Fault}
 use Rattle.tta_play.specs.States.{whole_text, state_text, where_text, places_text, file_text, imm_text, operands_text, return_text, results_text, dues_text, before_text, states_text}
 use Rattle.tta_play.specs.Statement.{limited, played_text}
 use Rattle.tta_play.specs.Steps.{IsAt, waiting}

@@ -3,14 +3,9 @@ use Rattle.std.proofs.Common.{◌≡◌, ℕ, ◌+◌, Bool, false, List, [], �
 use Rattle.std.specs.Prelude.{option_to_list}
 use Rattle.std.specs.List.{flat_map}
 use Rattle.std.proofs.lemmas.Bool.{eq-eqb, ne_eqb}
-use Rattle.tta_ops.specs.Units.{Units}
-use Rattle.tta_arch.specs.Machine.{Machine}
-use Rattle.tta_code.specs.declared.code.Code.{Code}
-use Rattle.tta_code.specs.Cycle.{State, Halted as HasHalted, next, next_of}
-use Rattle.tta_sim.specs.declared.cycle_step.CycleStep.{CycleStep}
-use Rattle.tta_sim.specs.declared.cycle_step.CycleStep.TheVariants.{Ran, Halted, Waiting, Fault}
-use Rattle.tta_sim.specs.Held.{Held, Stands, GoesTo, IsAnswer, cycles_of}
-use Rattle.tta_profile.specs.Counts.{is_made}
+use Rattle.tta_play.specs.Cited.{Units, Machine, Code, State, next, next_of, CycleStep, Ran, Held, Stands, GoesTo, IsAnswer, cycles_of, is_made}
+use Rattle.tta_code.specs.Cycle.{Halted as HasHalted}
+use Rattle.tta_sim.specs.declared.cycle_step.CycleStep.TheVariants.{Halted, Waiting, Fault}
 use Rattle.tta_play.specs.States.{out_text, outs_text, end_text}
 use Rattle.tta_play.specs.Steps.{Goes, step_text}
 

@@ -1,3 +1,4 @@
+pub mod Cited
 pub mod Ports
 pub mod States
 pub mod Steps

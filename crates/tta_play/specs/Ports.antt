@@ -2,10 +2,8 @@
 use Rattle.std.specs.Prelude.{ℕ, List, [], ◌++◌, Option, None, Some, slice_get, codes, decimal}
 use Rattle.std.specs.Option.{option_map_or}
 use Rattle.std.specs.List.{flat_map}
-use Rattle.tta_arch.specs.declared.parts.File.{File}
-use Rattle.tta_arch.specs.declared.parts.ImmUnit.{ImmUnit}
+use Rattle.tta_play.specs.Cited.{File, ImmUnit, Machine}
 use Rattle.tta_arch.specs.declared.parts.Unit.{Unit as OpUnit}
-use Rattle.tta_arch.specs.Machine.{Machine}
 
 -- the buses that a socket joins, bit k for bus k
 abbrev pub buses_of : Machine → (socket : ℕ) → ℕ

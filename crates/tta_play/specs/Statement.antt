@@ -1,15 +1,7 @@
 -- What a page that plays a run is.
 use Rattle.std.specs.Prelude.{ℕ, nat_lt, if◌then◌else◌, List, [], ◌++◌, length, take, codes, decimal}
 use Rattle.std.specs.List.{flat_map, enumerate_from}
-use Rattle.tta_list.specs.Iterate.{iterate}
-use Rattle.tta_ops.specs.Units.{Units}
-use Rattle.tta_arch.specs.declared.parts.Template.{Template}
-use Rattle.tta_arch.specs.Machine.{Machine}
-use Rattle.tta_code.specs.declared.code.Instruction.{Instruction}
-use Rattle.tta_code.specs.declared.code.Code.{Code}
-use Rattle.tta_code.specs.Cycle.{State, next}
-use Rattle.tta_asm.specs.Canonical.{imm_name, place_text, instruction_text}
-use Rattle.tta_pages.specs.Pages.{run_page}
+use Rattle.tta_play.specs.Cited.{iterate, Units, Template, Machine, Instruction, Code, State, next, imm_name, place_text, instruction_text, run_page}
 use Rattle.tta_play.specs.Ports.{ports_text}
 use Rattle.tta_play.specs.States.{before_text, whole_text, states_text}
 

@@ -2,17 +2,9 @@
 use Rattle.std.specs.Prelude.{ℕ, zero, suc, ◌+◌, ◌==◌, false, if◌then◌else◌, List, [], ◌++◌, Option, None, Some, option_map, length, take, drop, slice_get, codes, decimal}
 use Rattle.std.specs.Option.{option_map_or}
 use Rattle.std.specs.List.{flat_map, enumerate_from}
-use Rattle.tta_ops.specs.Units.{Units}
-use Rattle.tta_arch.specs.declared.parts.File.{File}
-use Rattle.tta_arch.specs.declared.parts.ImmUnit.{ImmUnit}
+use Rattle.tta_play.specs.Cited.{Units, File, ImmUnit, KeptReg, KeptImm, KeptOperand, KeptRa, kept, Machine, Instruction, State, Outcome, Running, port, instruction_text, due_at, is_made}
 use Rattle.tta_arch.specs.declared.parts.Unit.{Unit as OpUnit}
-use Rattle.tta_arch.specs.Effects.{KeptReg, KeptImm, KeptOperand, KeptRa, kept}
-use Rattle.tta_arch.specs.Machine.{Machine}
-use Rattle.tta_code.specs.declared.code.Instruction.{Instruction}
-use Rattle.tta_code.specs.Cycle.{State, Outcome, Running, Halted, Waiting, Fault, port}
-use Rattle.tta_asm.specs.Canonical.{instruction_text}
-use Rattle.tta_sim.specs.Results.{due_at}
-use Rattle.tta_profile.specs.Counts.{is_made}
+use Rattle.tta_code.specs.Cycle.{Halted, Waiting, Fault}
 
 -- ---- words
 

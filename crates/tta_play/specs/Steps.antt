@@ -1,11 +1,8 @@
 -- What a cycle adds to a page.
 use Rattle.std.specs.Prelude.{◌≡◌, ◌⊎◌, ℕ, Bool, true, false, List, [], ◌++◌, Option, None, Some, codes, decimal}
-use Rattle.tta_list.specs.Input.{left}
-use Rattle.tta_code.specs.Cycle.{State, Waiting as HasToWait}
-use Rattle.tta_sim.specs.declared.cycle_step.CycleStep.{CycleStep}
-use Rattle.tta_sim.specs.declared.cycle_step.CycleStep.TheVariants.{Ran, Halted, Waiting, Fault}
-use Rattle.tta_profile.specs.Counts.{is_made}
-use Rattle.tta_profile.specs.Feed.{went_on}
+use Rattle.tta_play.specs.Cited.{left, State, CycleStep, Ran, is_made, went_on}
+use Rattle.tta_code.specs.Cycle.{Waiting as HasToWait}
+use Rattle.tta_sim.specs.declared.cycle_step.CycleStep.TheVariants.{Halted, Waiting, Fault}
 use Rattle.tta_play.specs.States.{out_text, outs_text, end_text}
 
 -- what is told of an answer: the word that the cycle output, or why the run is over

@@ -8,21 +8,7 @@ use Rattle.std.proofs.lemmas.List.Folds.{list_all-append}
 use Rattle.std.proofs.lemmas.Option.{slice_get_within, get_or_from_slice_get}
 use Rattle.tta_list.proofs.Tests.{and_left, and_right}
 use Rattle.tta_list.proofs.Lists.{all_one}
-use Rattle.tta_ops.specs.Units.{Units, named}
-use Rattle.tta_ops.specs.declared.OpId.{OpId}
-use Rattle.tta_program.specs.declared.operand.Src.{Src}
-use Rattle.tta_program.specs.declared.operand.Rel.{Rel}
-use Rattle.tta_program.specs.declared.step.Step.{Step}
-use Rattle.tta_program.specs.declared.step.Step.TheVariants.{Copy, Apply, Load, Store, Put, Take, If, Goto, When, Invoke, Return, Halt, End}
-use Rattle.tta_program.specs.declared.program.Proc.{Proc}
-use Rattle.tta_program.specs.declared.program.DataLine.{DataLine}
-use Rattle.tta_program.specs.Program.{Program}
-use Rattle.tta_program.specs.Rules.{IsProc, is_call, is_src, is_step}
-use Rattle.tta_program.specs.Over.{is_over, has_test, test_name}
-use Rattle.tta_tac.specs.Forms.{Operand, Form, LabelForm, ApplyForm, CallForm}
-use Rattle.tta_tac.specs.FirstPass.{lacks_op, has_wrong_arity, has_many_args, arity_of, asked_op}
-use Rattle.tta_tac.specs.Grammar.{is_fit}
-use Rattle.tta_ifconv.specs.Triangles.{is_target}
+use Rattle.tta_printed.specs.Cited.{Units, named, OpId, Src, Rel, Step, Copy, Apply, Load, Store, Put, Take, If, Goto, When, Invoke, Return, Halt, End, Proc, DataLine, Program, IsProc, is_call, is_src, is_step, is_over, has_test, test_name, Operand, Form, LabelForm, ApplyForm, CallForm, lacks_op, has_wrong_arity, has_many_args, arity_of, asked_op, is_fit, is_target}
 use Rattle.tta_printed.specs.Printed.{label_name, proc_name, op_name, var_name}
 use Rattle.tta_printed.proofs.Forms.{said, all_said}
 use Rattle.tta_printed.proofs.Said.{step_said, steps_form, procs_form, data_form, numbered_from, numbered_append}

@@ -7,16 +7,9 @@ use Rattle.std.proofs.lemmas.Bool.{and_from, eqb-true, eq-eqb}
 use Rattle.std.proofs.Math.Seq.{take-suc, take-length}
 use Rattle.std.proofs.lemmas.List.{take_all}
 use Rattle.std.proofs.lemmas.Option.{slice_get_within}
-use Rattle.tta_list.specs.Legs.{AllPairs}
+use Rattle.tta_printed.specs.Cited.{AllPairs, Units, Step, Copy, Apply, Load, Store, Put, Take, If, Goto, When, Invoke, Return, Halt, End, Proc, Program, opposite, target, names, is_target, is_triangle, is_dropped, place, renumbered, becomes, IsConverted, Converted}
 use Rattle.tta_list.proofs.Tests.{and_left, and_right}
 use Rattle.tta_list.proofs.Lists.{list_all_one, all_from as all_from_each, any_there as any_from_one}
-use Rattle.tta_ops.specs.Units.{Units}
-use Rattle.tta_program.specs.declared.step.Step.{Step}
-use Rattle.tta_program.specs.declared.step.Step.TheVariants.{Copy, Apply, Load, Store, Put, Take, If, Goto, When, Invoke, Return, Halt, End}
-use Rattle.tta_program.specs.declared.program.Proc.{Proc}
-use Rattle.tta_program.specs.Program.{Program}
-use Rattle.tta_ifconv.specs.Triangles.{opposite, target, names, is_target, is_triangle, is_dropped, place, renumbered, becomes}
-use Rattle.tta_ifconv.specs.Converted.{IsConverted, Converted}
 use Rattle.tta_ifconv.proofs.Lists.{stands_within, one_from_any}
 use Rattle.tta_ifconv.proofs.Places.{target_stays, place_once, place_least, triangle_stays}
 use Rattle.tta_ifconv.proofs.Origins.{Kind, Joined, Renumbered, kind_of, origin_of}

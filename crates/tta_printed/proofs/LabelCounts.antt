@@ -4,10 +4,8 @@ use Rattle.std.specs.Prelude.{Option, Some, None, ◌||◌, if◌then◌else◌}
 use Rattle.std.specs.Option.{option_map_or}
 use Rattle.std.specs.List.{list_any}
 use Rattle.std.proofs.lemmas.Bool.{eqb-true}
-use Rattle.tta_reading.specs.Names.{Declared}
-use Rattle.tta_program.specs.declared.step.Step.{Step}
-use Rattle.tta_tac.specs.Grammar.{Said, label_in, step_lines as lines_said, labels_said}
-use Rattle.tta_ifconv.specs.Triangles.{is_target}
+use Rattle.tta_printed.specs.Cited.{Declared, Step, Said, label_in, labels_said, is_target}
+use Rattle.tta_tac.specs.Grammar.{step_lines as lines_said}
 use Rattle.tta_printed.proofs.Kept.{count}
 
 -- how many of the first numbers a test finds

@@ -7,22 +7,9 @@ use Rattle.std.specs.Str.{bytes_eq}
 use Rattle.std.proofs.lemmas.Bool.{eqb-true, eq-eqb, cases_lt, ltb-true}
 use Rattle.std.proofs.lemmas.Option.{slice_get_within}
 use Rattle.tta_list.proofs.Tests.{and_left, and_right}
-use Rattle.tta_reading.specs.Names.{Declared, named_in}
-use Rattle.tta_reading.specs.Steps.{◌>>=◌, or_refuse}
-use Rattle.tta_ops.specs.Units.{Units}
-use Rattle.tta_program.specs.declared.operand.Src.{Src}
-use Rattle.tta_program.specs.declared.step.Step.{Step}
-use Rattle.tta_program.specs.declared.step.Step.TheVariants.{Copy, Apply, Load, Store, Put, Take, If, Goto, When, Invoke, Return, Halt, End}
-use Rattle.tta_program.specs.declared.program.Proc.{Proc}
-use Rattle.tta_program.specs.Program.{Program}
-use Rattle.tta_program.specs.Rules.{IsProc, is_src, is_call, is_step}
-use Rattle.tta_program.specs.Over.{is_over}
-use Rattle.tta_tac.specs.declared.refusal.Refusal.TheVariants.{UnknownLabel}
-use Rattle.tta_tac.specs.Draft.{CallTo, Draft}
-use Rattle.tta_tac.specs.FirstPass.{numbered, has_twice}
-use Rattle.tta_tac.specs.SecondPass.{params_of, link_step, link_steps, link_proc, link_procs}
-use Rattle.tta_tac.specs.Grammar.{step_lines, proc_said, vars_said}
-use Rattle.tta_ifconv.specs.Triangles.{names}
+use Rattle.tta_printed.specs.Cited.{Declared, named_in, or_refuse, Units, Src, Step, Copy, Apply, Load, Store, Put, Take, If, Goto, When, Invoke, Return, Halt, End, Proc, Program, IsProc, is_src, is_call, is_step, is_over, UnknownLabel, CallTo, Draft, numbered, has_twice, params_of, link_step, link_steps, link_proc, link_procs, proc_said, vars_said, names}
+use Rattle.tta_reading.specs.Steps.{◌>>=◌}
+use Rattle.tta_tac.specs.Grammar.{step_lines}
 use Rattle.tta_printed.specs.Printed.{var_name, label_name, proc_name, var_names}
 use Rattle.tta_printed.specs.Readable.{is_in_order}
 use Rattle.tta_printed.proofs.Names.{procs_apart, main_named, vars_apart}

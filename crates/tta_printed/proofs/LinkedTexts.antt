@@ -7,20 +7,10 @@ use Rattle.std.specs.Str.{bytes_eq}
 use Rattle.std.proofs.lemmas.Bool.{and_from, not-true}
 use Rattle.std.proofs.Math.Bool.{or-true}
 use Rattle.tta_list.proofs.Tests.{and_left, and_right}
-use Rattle.tta_text.specs.Words.{is_name}
-use Rattle.tta_reading.specs.Names.{Declared, named_in}
-use Rattle.tta_reading.specs.Steps.{◌>>=◌, refuse_if, at_line}
+use Rattle.tta_printed.specs.Cited.{is_name, Declared, named_in, refuse_if, at_line, Units, named, first_at, Step, UnknownLabel, Arity, Form, ProcForm, DataForm, LabelForm, CopyForm, ApplyForm, LoadForm, StoreForm, PutForm, TakeForm, IfForm, GotoForm, WhenForm, CallForm, ReturnForm, HaltForm, EndForm, Unlinked, Plain, IfTo, GotoTo, CallTo, Draft, vars_after, op_id, step_of, callee_named, params_of, link_step, link_steps, Said, steps_said, is_fit, target, names, is_target}
+use Rattle.tta_reading.specs.Steps.{◌>>=◌}
 use Rattle.tta_reading.proofs.Steps.{same_ok, refuse_if-ok, then-ok, some-ok, at_line-ok}
-use Rattle.tta_ops.specs.Units.{Units, named, first_at}
-use Rattle.tta_program.specs.declared.step.Step.{Step}
 use Rattle.tta_program.specs.declared.step.Step.TheVariants as step
-use Rattle.tta_tac.specs.declared.refusal.Refusal.TheVariants.{UnknownLabel, Arity}
-use Rattle.tta_tac.specs.Forms.{Form, ProcForm, DataForm, LabelForm, CopyForm, ApplyForm, LoadForm, StoreForm, PutForm, TakeForm, IfForm, GotoForm, WhenForm, CallForm, ReturnForm, HaltForm, EndForm}
-use Rattle.tta_tac.specs.Draft.{Unlinked, Plain, IfTo, GotoTo, CallTo, Draft}
-use Rattle.tta_tac.specs.FirstPass.{vars_after, op_id, step_of}
-use Rattle.tta_tac.specs.SecondPass.{callee_named, params_of, link_step, link_steps}
-use Rattle.tta_tac.specs.Grammar.{Said, steps_said, is_fit}
-use Rattle.tta_ifconv.specs.Triangles.{target, names, is_target}
 use Rattle.tta_printed.specs.Printed.{op_name}
 use Rattle.tta_printed.specs.Readable.{is_named}
 use Rattle.tta_printed.proofs.Names.{bytes_same}

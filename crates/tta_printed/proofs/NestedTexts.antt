@@ -3,9 +3,7 @@ use Rattle.std.proofs.Common.{◌≡◌, ℕ, suc, ◌+◌, Bool, true, false, L
 use Rattle.std.specs.Prelude.{Option, Some, None, not, ◌&&◌, if◌then◌else◌, is_some, option_to_list}
 use Rattle.std.specs.Option.{option_map_or}
 use Rattle.std.specs.List.{AllByRecursion}
-use Rattle.tta_tac.specs.Forms.{Form, ProcForm, DataForm}
-use Rattle.tta_tac.specs.FirstPass.{is_end}
-use Rattle.tta_tac.specs.Grammar.{Said, Block, proc_in, datum_in, are_nested, up_to_end, blocks, data_said}
+use Rattle.tta_printed.specs.Cited.{Form, ProcForm, DataForm, is_end, Said, Block, proc_in, datum_in, are_nested, up_to_end, blocks, data_said}
 use Rattle.tta_printed.proofs.Nesting.{is_inner}
 
 inner_is : (line : ℕ) (f : Form) → is_some (proc_in f) ≡ false → is_some (datum_in line f) ≡ false → is_inner f ≡ true

@@ -2,16 +2,8 @@
 use Rattle.std.proofs.Common.{◌≡◌, ℕ, ◌+◌, Bool, true, false, List, [], ◌∷◌, ◌++◌, length, refl, sym, ap, ◌∙◌}
 use Rattle.std.specs.Prelude.{Some, None, if◌then◌else◌}
 use Rattle.std.specs.List.{AllByRecursion}
-use Rattle.tta_ops.specs.Units.{Units}
-use Rattle.tta_program.specs.declared.step.Step.{Step}
-use Rattle.tta_program.specs.declared.step.Step.TheVariants.{Copy, Apply, Load, Store, Put, Take, If, Goto, When, Invoke, Return, Halt, End}
-use Rattle.tta_program.specs.declared.program.Proc.{Proc}
-use Rattle.tta_program.specs.declared.program.DataLine.{DataLine}
-use Rattle.tta_program.specs.Rules.{ends_once, is_end as is_end_step}
-use Rattle.tta_tac.specs.Forms.{Form, ProcForm, DataForm, LabelForm}
-use Rattle.tta_tac.specs.FirstPass.{is_end}
-use Rattle.tta_tac.specs.Grammar.{Said, proc_in, datum_in, are_nested, Block, up_to_end, blocks, data_said}
-use Rattle.tta_ifconv.specs.Triangles.{is_target}
+use Rattle.tta_printed.specs.Cited.{Units, Step, Copy, Apply, Load, Store, Put, Take, If, Goto, When, Invoke, Return, Halt, End, Proc, DataLine, ends_once, Form, ProcForm, DataForm, LabelForm, is_end, Said, proc_in, datum_in, are_nested, Block, up_to_end, blocks, data_said, is_target}
+use Rattle.tta_program.specs.Rules.{is_end as is_end_step}
 use Rattle.tta_ifconv.proofs.Kept.{skip_first}
 use Rattle.tta_printed.specs.Printed.{var_names, label_name, proc_name}
 use Rattle.tta_printed.proofs.Said.{step_said, label_said, steps_form, procs_form, data_form, numbered_from, numbered_append}

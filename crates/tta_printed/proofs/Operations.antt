@@ -6,13 +6,7 @@ use Rattle.std.proofs.lemmas.Bool.{eqb-true, not-true}
 use Rattle.std.proofs.lemmas.Option.{slice_get_within, get_or_from_slice_get}
 use Rattle.tta_list.proofs.Tests.{and_left, and_right}
 use Rattle.tta_list.proofs.Lists.{list_all_one}
-use Rattle.tta_ops.specs.Reserved.{is_reserved}
-use Rattle.tta_ops.specs.Units.{Units}
-use Rattle.tta_ops.specs.declared.OpId.{OpId}
-use Rattle.tta_program.specs.declared.operand.Src.{Src}
-use Rattle.tta_program.specs.declared.operand.Src.TheVariants.{Var, Word}
-use Rattle.tta_program.specs.declared.step.Step.TheVariants.{Apply}
-use Rattle.tta_program.specs.Over.{is_over, is_zero}
+use Rattle.tta_printed.specs.Cited.{is_reserved, Units, OpId, Src, Var, Word, Apply, is_over, is_zero}
 use Rattle.tta_ifconv.proofs.Lists.{stands_within}
 use Rattle.tta_printed.specs.Printed.{word, op_name, operand_words, step_line}
 use Rattle.tta_printed.proofs.Forms.{IsShort, Reads, assign_read, one_read, two_read}

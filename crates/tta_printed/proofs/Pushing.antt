@@ -3,17 +3,9 @@ use Rattle.std.proofs.Common.{◌≡◌, ◌≤◌, ℕ, zero, suc, ◌+◌, ◌
 use Rattle.std.specs.Prelude.{if◌then◌else◌}
 use Rattle.std.specs.List.{flat_map, AllByRecursion}
 use Rattle.std.proofs.Math.Seq.{take-suc}
-use Rattle.tta_reading.specs.Lines.{Lexeme, Line}
-use Rattle.tta_ops.specs.Units.{Units}
-use Rattle.tta_program.specs.declared.operand.Src.{Src}
-use Rattle.tta_program.specs.declared.step.Step.{Step}
-use Rattle.tta_program.specs.declared.program.Proc.{Proc}
-use Rattle.tta_program.specs.declared.program.DataLine.{DataLine}
-use Rattle.tta_program.specs.Program.{Program}
-use Rattle.tta_program.specs.Rules.{IsProgram}
+use Rattle.tta_printed.specs.Cited.{Lexeme, Line, Units, Src, Step, Proc, DataLine, Program, IsProgram, is_target}
 use Rattle.tta_list.proofs.Lists.{all_weaker}
 use Rattle.tta_printed.proofs.Reading.{steps_short}
-use Rattle.tta_ifconv.specs.Triangles.{is_target}
 use Rattle.tta_printed.specs.Printed.{Printed, Words, Label, label_name, word, var_name, src_word, src_words, words, var_names, spaced, line_text, step_lines, label_before, step_line, proc_lines, proc_line, data_lines, data_line}
 use Rattle.tta_printed.specs.Printing.{spaced_after, proc_text}
 

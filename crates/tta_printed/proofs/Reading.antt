@@ -7,24 +7,9 @@ use Rattle.std.proofs.lemmas.Fmt.{decimal_is_IsNumeral}
 use Rattle.std.proofs.lemmas.Bool.{ltb-true}
 use Rattle.std.proofs.lemmas.List.Sums.{sum_by-cons}
 use Rattle.std.proofs.lemmas.Option.{slice_get_within}
-use Rattle.tta_text.specs.Words.{is_name, is_run}
-use Rattle.tta_reading.specs.Lines.{lines_of}
+use Rattle.tta_printed.specs.Cited.{is_name, is_run, lines_of, Units, Src, Var, Word, Rel, Eq, Ne, Lt, Ge, Ltu, Geu, Step, Copy, Apply, Load, Store, Put, Take, If, Goto, When, Invoke, Return, Halt, End, Proc, DataLine, Program, IsProgram, IsProc, is_src, is_call, is_step, is_datum, StandsOver, is_over, LabelForm, is_target}
 use Rattle.tta_list.proofs.Tests.{and_left, and_right}
 use Rattle.tta_list.proofs.Lists.{all_append}
-use Rattle.tta_ops.specs.Units.{Units}
-use Rattle.tta_program.specs.declared.operand.Src.{Src}
-use Rattle.tta_program.specs.declared.operand.Src.TheVariants.{Var, Word}
-use Rattle.tta_program.specs.declared.operand.Rel.{Rel}
-use Rattle.tta_program.specs.declared.operand.Rel.TheVariants.{Eq, Ne, Lt, Ge, Ltu, Geu}
-use Rattle.tta_program.specs.declared.step.Step.{Step}
-use Rattle.tta_program.specs.declared.step.Step.TheVariants.{Copy, Apply, Load, Store, Put, Take, If, Goto, When, Invoke, Return, Halt, End}
-use Rattle.tta_program.specs.declared.program.Proc.{Proc}
-use Rattle.tta_program.specs.declared.program.DataLine.{DataLine}
-use Rattle.tta_program.specs.Program.{Program}
-use Rattle.tta_program.specs.Rules.{IsProgram, IsProc, is_src, is_call, is_step, is_datum}
-use Rattle.tta_program.specs.Over.{StandsOver, is_over}
-use Rattle.tta_tac.specs.Forms.{LabelForm}
-use Rattle.tta_ifconv.specs.Triangles.{is_target}
 use Rattle.tta_printed.specs.Printed.{Words, Label, word, var_name, label_name, proc_name, var_names, words, src_word, src_words, rel_name, operand_words, lines_printed, data_lines, proc_lines, step_lines, label_before, step_line, printed}
 use Rattle.tta_printed.specs.Readable.{is_named, IsReadable}
 use Rattle.tta_printed.proofs.ScannedLines.{IsWord, AreWords, CanBePrinted, words_of, lines_of_printed}

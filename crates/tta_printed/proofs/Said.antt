@@ -3,16 +3,7 @@ use Rattle.std.proofs.Common.{◌≡◌, ℕ, suc, ◌+◌, ◌==◌, true, List
 use Rattle.std.specs.Prelude.{Some, None, if◌then◌else◌, is_some, option_map, option_to_list}
 use Rattle.std.specs.List.{list_all}
 use Rattle.std.proofs.lemmas.Bool.{and_from}
-use Rattle.tta_reading.specs.Lines.{Line}
-use Rattle.tta_ops.specs.Units.{Units}
-use Rattle.tta_program.specs.declared.step.Step.{Step}
-use Rattle.tta_program.specs.declared.step.Step.TheVariants.{Copy, Apply, Load, Store, Put, Take, If, Goto, When, Invoke, Return, Halt, End}
-use Rattle.tta_program.specs.declared.program.Proc.{Proc}
-use Rattle.tta_program.specs.declared.program.DataLine.{DataLine}
-use Rattle.tta_program.specs.Program.{Program}
-use Rattle.tta_tac.specs.Forms.{Form, ProcForm, DataForm, LabelForm, CopyForm, ApplyForm, LoadForm, StoreForm, PutForm, TakeForm, IfForm, GotoForm, WhenForm, CallForm, ReturnForm, HaltForm, EndForm, form_of}
-use Rattle.tta_tac.specs.Grammar.{Said, said_from, is_line}
-use Rattle.tta_ifconv.specs.Triangles.{is_target}
+use Rattle.tta_printed.specs.Cited.{Line, Units, Step, Copy, Apply, Load, Store, Put, Take, If, Goto, When, Invoke, Return, Halt, End, Proc, DataLine, Program, Form, ProcForm, DataForm, LabelForm, CopyForm, ApplyForm, LoadForm, StoreForm, PutForm, TakeForm, IfForm, GotoForm, WhenForm, CallForm, ReturnForm, HaltForm, EndForm, form_of, Said, said_from, is_line, is_target}
 use Rattle.tta_printed.specs.Printed.{Printed, var_name, label_name, proc_name, op_name, var_names}
 use Rattle.tta_printed.proofs.ScannedLines.{words_of}
 use Rattle.tta_printed.proofs.Forms.{said, all_said, Reads}

@@ -4,16 +4,9 @@ use Rattle.std.specs.Prelude.{Ok}
 use Rattle.std.specs.List.{list_all, AllByRecursion}
 use Rattle.std.proofs.lemmas.Bool.{and_from}
 use Rattle.tta_list.proofs.Tests.{and_left, and_right}
-use Rattle.tta_reading.specs.Lines.{lines_of}
+use Rattle.tta_printed.specs.Cited.{lines_of, Units, Proc, DataLine, Draft, numbered, link_steps, link_proc, link_procs, Said, said_from, Block, blocks, proc_said, draft_said, is_fit}
 use Rattle.tta_reading.specs.Steps.{◌>>=◌}
 use Rattle.tta_reading.proofs.Steps.{same_ok, then-ok}
-use Rattle.tta_ops.specs.Units.{Units}
-use Rattle.tta_program.specs.declared.program.Proc.{Proc}
-use Rattle.tta_program.specs.declared.program.DataLine.{DataLine}
-use Rattle.tta_tac.specs.Draft.{Draft}
-use Rattle.tta_tac.specs.FirstPass.{numbered}
-use Rattle.tta_tac.specs.SecondPass.{link_steps, link_proc, link_procs}
-use Rattle.tta_tac.specs.Grammar.{Said, said_from, Block, blocks, proc_said, draft_said, is_fit}
 use Rattle.tta_tac.proofs.Described.{program_said}
 use Rattle.tta_printed.specs.Printed.{data_lines, proc_lines, step_lines}
 use Rattle.tta_printed.specs.Readable.{is_named}

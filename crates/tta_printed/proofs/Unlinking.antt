@@ -7,19 +7,8 @@ use Rattle.std.specs.Str.{bytes_eq}
 use Rattle.std.proofs.lemmas.Bool.{eqb-true, eq-eqb, cases_lt}
 use Rattle.std.proofs.lemmas.Option.{slice_get_within, get_or_from_slice_get}
 use Rattle.tta_list.proofs.Tests.{and_left, and_right}
-use Rattle.tta_reading.specs.Names.{Declared, named_in}
-use Rattle.tta_ops.specs.Units.{Units, named, first_at, AreDistinct}
-use Rattle.tta_ops.specs.declared.OpId.{OpId}
-use Rattle.tta_program.specs.declared.operand.Src.{Src}
-use Rattle.tta_program.specs.declared.operand.Src.TheVariants.{Var, Word}
-use Rattle.tta_program.specs.declared.step.Step.{Step}
-use Rattle.tta_program.specs.declared.step.Step.TheVariants.{Copy, Apply, Load, Store, Put, Take, If, Goto, When, Invoke, Return, Halt, End}
-use Rattle.tta_program.specs.Over.{is_over}
-use Rattle.tta_tac.specs.Forms.{Form, LabelForm}
-use Rattle.tta_tac.specs.Draft.{Unlinked, Plain, IfTo, GotoTo, CallTo}
-use Rattle.tta_tac.specs.FirstPass.{var_number, src_of, srcs_of, vars_after, op_id, apply_step, step_of, has_twice}
-use Rattle.tta_tac.specs.Grammar.{Said, label_in, vars_said, labels_said, steps_said, step_lines, label_names}
-use Rattle.tta_ifconv.specs.Triangles.{is_target}
+use Rattle.tta_printed.specs.Cited.{Declared, named_in, Units, named, first_at, AreDistinct, OpId, Src, Var, Word, Step, Copy, Apply, Load, Store, Put, Take, If, Goto, When, Invoke, Return, Halt, End, is_over, Form, LabelForm, Unlinked, Plain, IfTo, GotoTo, CallTo, var_number, src_of, srcs_of, vars_after, op_id, apply_step, step_of, has_twice, Said, label_in, vars_said, labels_said, steps_said, label_names, is_target}
+use Rattle.tta_tac.specs.Grammar.{step_lines}
 use Rattle.tta_printed.specs.Printed.{var_name, label_name, proc_name, op_name}
 use Rattle.tta_printed.specs.Readable.{in_src, mentions, are_in_order}
 use Rattle.tta_printed.proofs.Names.{bytes_apart, labels_apart}

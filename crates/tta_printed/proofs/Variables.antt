@@ -6,14 +6,7 @@ use Rattle.std.specs.Str.{bytes_eq}
 use Rattle.std.proofs.lemmas.Bool.{eqb-true, eq-eqb, leb-true, cases_lt, and_from}
 use Rattle.std.proofs.lemmas.Option.{get_or_from_slice_get}
 use Rattle.tta_list.proofs.Tests.{and_left, and_right}
-use Rattle.tta_reading.specs.Names.{Declared, named_in}
-use Rattle.tta_ops.specs.Units.{Units}
-use Rattle.tta_program.specs.declared.operand.Src.{Src}
-use Rattle.tta_program.specs.declared.operand.Src.TheVariants.{Var, Word}
-use Rattle.tta_program.specs.declared.step.Step.{Step}
-use Rattle.tta_program.specs.declared.step.Step.TheVariants.{Copy, Apply, Load, Store, Put, Take, If, Goto, When, Invoke, Return, Halt, End}
-use Rattle.tta_program.specs.Over.{is_over}
-use Rattle.tta_tac.specs.FirstPass.{numbered, with_var, with_operand, with_operands, vars_after}
+use Rattle.tta_printed.specs.Cited.{Declared, named_in, Units, Src, Var, Word, Step, Copy, Apply, Load, Store, Put, Take, If, Goto, When, Invoke, Return, Halt, End, is_over, numbered, with_var, with_operand, with_operands, vars_after}
 use Rattle.tta_printed.specs.Printed.{var_name, var_names}
 use Rattle.tta_printed.specs.Readable.{in_src, mentions, are_in_order}
 use Rattle.tta_printed.proofs.Names.{vars_apart}

@@ -6,22 +6,9 @@ use Rattle.std.specs.List.{list_any, list_all, AllByRecursion}
 use Rattle.std.specs.Str.{bytes_eq}
 use Rattle.std.proofs.lemmas.Bool.{eqb-true, and_from}
 use Rattle.std.proofs.lemmas.List.Folds.{list_all-append}
-use Rattle.tta_list.specs.Legs.{AllPairs}
+use Rattle.tta_printed.specs.Cited.{AllPairs, lines_of, named_in, Units, Proc, DataLine, Program, datum_of, IsProgram, IsProc, ends_once, are_apart, calls_proc, Reaches, ByCall, ByMore, StandsOver, is_over, Draft, numbered, has_twice, params_of, link_procs, with_main, Said, said_from, is_line, are_nested, Block, blocks, data_said, proc_said, draft_said, is_fit, IsBlock, KeepsRules, IsProgramText, vars_said}
 use Rattle.tta_list.proofs.Tests.{and_left, and_right}
 use Rattle.tta_list.proofs.Lists.{all_weaker}
-use Rattle.tta_reading.specs.Lines.{lines_of}
-use Rattle.tta_reading.specs.Names.{named_in}
-use Rattle.tta_ops.specs.Units.{Units}
-use Rattle.tta_program.specs.declared.program.Proc.{Proc}
-use Rattle.tta_program.specs.declared.program.DataLine.{DataLine}
-use Rattle.tta_program.specs.Program.{Program, datum_of}
-use Rattle.tta_program.specs.Rules.{IsProgram, IsProc, ends_once, are_apart, calls_proc, Reaches, ByCall, ByMore}
-use Rattle.tta_program.specs.Over.{StandsOver, is_over}
-use Rattle.tta_tac.specs.Draft.{Draft}
-use Rattle.tta_tac.specs.FirstPass.{numbered, has_twice}
-use Rattle.tta_tac.specs.SecondPass.{params_of, link_procs}
-use Rattle.tta_tac.specs.Text.{with_main}
-use Rattle.tta_tac.specs.Grammar.{Said, said_from, is_line, are_nested, Block, blocks, data_said, proc_said, draft_said, is_fit, IsBlock, KeepsRules, IsProgramText, vars_said}
 use Rattle.tta_tac.proofs.Described.{said_program}
 use Rattle.tta_printed.specs.Printed.{printed, lines_printed, proc_name, var_names}
 use Rattle.tta_printed.specs.Readable.{IsReadable, is_in_order}

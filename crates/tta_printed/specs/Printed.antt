@@ -1,20 +1,7 @@
 -- The printed text of a program: a statement on each line, with single blanks between its words.
 use Rattle.std.specs.Prelude.{ℕ, suc, zero, ◌+◌, ◌==◌, if◌then◌else◌, List, [], ◌∷◌, ◌++◌, Some, None, get_or, codes, decimal}
 use Rattle.std.specs.List.{flat_map}
-use Rattle.tta_text.specs.declared.lexeme.Kind.TheVariants.{Name, Number, Mark}
-use Rattle.tta_reading.specs.Lines.{Lexeme, Line}
-use Rattle.tta_ops.specs.declared.OpId.{OpId}
-use Rattle.tta_ops.specs.Units.{Units}
-use Rattle.tta_program.specs.declared.operand.Src.{Src}
-use Rattle.tta_program.specs.declared.operand.Src.TheVariants.{Var, Word}
-use Rattle.tta_program.specs.declared.operand.Rel.{Rel}
-use Rattle.tta_program.specs.declared.operand.Rel.TheVariants.{Eq, Ne, Lt, Ge, Ltu, Geu}
-use Rattle.tta_program.specs.declared.step.Step.{Step}
-use Rattle.tta_program.specs.declared.step.Step.TheVariants.{Copy, Apply, Load, Store, Put, Take, If, Goto, When, Invoke, Return, Halt, End}
-use Rattle.tta_program.specs.declared.program.Proc.{Proc}
-use Rattle.tta_program.specs.declared.program.DataLine.{DataLine}
-use Rattle.tta_program.specs.Program.{Program}
-use Rattle.tta_ifconv.specs.Triangles.{is_target}
+use Rattle.tta_printed.specs.Cited.{Name, Number, Mark, Lexeme, Line, OpId, Units, Src, Var, Word, Rel, Eq, Ne, Lt, Ge, Ltu, Geu, Step, Copy, Apply, Load, Store, Put, Take, If, Goto, When, Invoke, Return, Halt, End, Proc, DataLine, Program, is_target}
 
 -- ---- words
 

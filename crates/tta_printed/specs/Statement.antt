@@ -1,13 +1,6 @@
 -- A printed text is read to the printed program, but for its line numbers.
 use Rattle.std.specs.Prelude.{◌≡◌, ℕ, List}
-use Rattle.tta_list.specs.Legs.{AllPairs}
-use Rattle.tta_ops.specs.Units.{Units}
-use Rattle.tta_program.specs.declared.program.Proc.{Proc}
-use Rattle.tta_program.specs.Program.{Program, data_of}
-use Rattle.tta_program.specs.Rules.{IsProgram}
-use Rattle.tta_program.specs.Over.{StandsOver}
-use Rattle.tta_tac.specs.Text.{ProgramText}
-use Rattle.tta_ifconv.specs.Converted.{Converted}
+use Rattle.tta_printed.specs.Cited.{AllPairs, Units, Proc, Program, data_of, IsProgram, StandsOver, ProgramText, Converted}
 use Rattle.tta_printed.specs.Printed.{printed}
 use Rattle.tta_printed.specs.Readable.{IsReadable}
 

@@ -1,11 +1,7 @@
 -- What is found of the slots of an instruction, one after another.
 use Rattle.std.proofs.Common.{◌≡◌, ℕ, ◌<◌, Bool, List, None, Option, get_or, length, map, sym, ap, ◌∙◌}
 use Rattle.std.proofs.lemmas.List.{get_or-map}
-use Rattle.tta_arch.specs.Machine.{Machine}
-use Rattle.tta_arch.specs.Effects.{Written}
-use Rattle.tta_code.specs.declared.code.Move.{Move}
-use Rattle.tta_code.specs.Cycle.{State}
-use Rattle.tta_places.specs.Carried.{carried}
+use Rattle.tta_profile.specs.Cited.{Machine, Written, Move, State, carried}
 use Rattle.tta_profile.specs.declared.outside.Space.{Space}
 use Rattle.tta_profile.specs.Outside.{is_outside, is_past, slot_address, words_of}
 

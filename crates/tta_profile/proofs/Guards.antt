@@ -4,12 +4,7 @@ use Rattle.std.specs.Prelude.{slice_get}
 use Rattle.std.specs.List.{All, AllByRecursion}
 use Rattle.std.proofs.lemmas.List.Elements.{All-nil, All-cons}
 use Rattle.tta_list.proofs.Lists.{all_one}
-use Rattle.tta_arch.specs.Machine.{Machine}
-use Rattle.tta_arch.specs.Rules.{IsMachine}
-use Rattle.tta_code.specs.declared.code.Instruction.{Instruction}
-use Rattle.tta_code.specs.declared.code.Code.{Code}
-use Rattle.tta_code.specs.Legal.{IsLegalCode, is_legal}
-use Rattle.tta_sim.specs.Moves.{IsPossible}
+use Rattle.tta_profile.specs.Cited.{Machine, IsMachine, Instruction, Code, IsLegalCode, is_legal, IsPossible}
 use Rattle.tta_sim.proofs.Possible.{possible}
 
 -- an instruction of legal code has moves that a run can make

@@ -3,13 +3,8 @@ use Rattle.std.proofs.Common.{◌≡◌, inl, inr, ℕ, zero, suc, ◌+◌, ◌<
 use Rattle.std.specs.Prelude.{if◌then◌else◌, slice_get, slice_index}
 use Rattle.std.specs.List.{list_any}
 use Rattle.std.proofs.lemmas.Bool.{cases_eq, cases_lt, ne_eqb, eqb-true}
-use Rattle.tta_ops.specs.Units.{Units}
-use Rattle.tta_arch.specs.Machine.{Machine}
-use Rattle.tta_code.specs.declared.code.Code.{Code}
-use Rattle.tta_code.specs.declared.code.Instruction.{Instruction}
-use Rattle.tta_code.specs.declared.code.Move.{Move}
-use Rattle.tta_code.specs.Cycle.{State, Running, Halted, Waiting, Fault, next, next_of, carry_out}
-use Rattle.tta_places.specs.Carried.{slots_of}
+use Rattle.tta_profile.specs.Cited.{Units, Machine, Code, Instruction, Move, State, Running, next, next_of, carry_out, slots_of}
+use Rattle.tta_code.specs.Cycle.{Halted, Waiting, Fault}
 use Rattle.tta_profile.specs.Counts.{is_made}
 use Rattle.tta_profile.specs.declared.outside.Space.{Space}
 use Rattle.tta_profile.specs.Outside.{is_outside, strays}

@@ -7,12 +7,8 @@ use Rattle.std.proofs.lemmas.Bool.{cases_eq, cases_lt, eq-eqb, ne_eqb, lt-ltb, l
 use Rattle.std.proofs.lemmas.List.{length-append, length-replicate}
 use Rattle.std.proofs.lemmas.List.Sums.{length-filter}
 use Rattle.std.proofs.lemmas.List.Elements.{filter-append}
-use Rattle.tta_list.specs.Iterate.{iterate}
-use Rattle.tta_arch.specs.Machine.{Machine}
+use Rattle.tta_profile.specs.Cited.{iterate, Machine, Instruction, State, slots_of}
 use Rattle.tta_arch.proofs.CodeLists.{numbered_more}
-use Rattle.tta_code.specs.declared.code.Instruction.{Instruction}
-use Rattle.tta_code.specs.Cycle.{State}
-use Rattle.tta_places.specs.Carried.{slots_of}
 use Rattle.tta_profile.specs.declared.outside.Space.{Space}
 use Rattle.tta_profile.specs.declared.outside.Space.TheVariants.{Data, Frame}
 use Rattle.tta_profile.specs.Steps.{AreSmall, AreSmallOutside, Adds, AddsOutside, IsOver}

@@ -2,11 +2,7 @@
 use Rattle.std.specs.Prelude.{◌≡◌, ℕ, ◌+◌, ◌*◌, ◌<◌, ◌==◌, Bool, false, not, ◌&&◌, List, map, length, Option, None, slice_get, slice_index, slice_index_or, option_and_then}
 use Rattle.std.specs.Option.{option_map_or}
 use Rattle.std.specs.List.{count_by, range_with_len}
-use Rattle.tta_list.specs.Iterate.{iterate}
-use Rattle.tta_arch.specs.Effects.{is_active}
-use Rattle.tta_code.specs.declared.code.Move.{Move}
-use Rattle.tta_code.specs.declared.code.Instruction.{Instruction}
-use Rattle.tta_code.specs.Cycle.{State, read_source, effect_of}
+use Rattle.tta_profile.specs.Cited.{iterate, is_active, Move, Instruction, State, read_source, effect_of}
 
 -- the states before each of the first n cycles
 abbrev pub states : (step : State → State) → State → ℕ → List State

@@ -1,3 +1,4 @@
+pub mod Cited
 pub mod Counts
 pub mod Feed
 pub mod Outside

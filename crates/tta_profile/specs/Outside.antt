@@ -2,14 +2,7 @@
 use Rattle.std.specs.Prelude.{◌≡◌, ℕ, ◌==◌, Bool, false, nat_le, ◌&&◌, List, length, Option, None, Some, slice_get, slice_index, option_and_then}
 use Rattle.std.specs.Option.{option_map_or}
 use Rattle.std.specs.List.{count_by, list_any}
-use Rattle.tta_arch.specs.declared.parts.Op.{Op}
-use Rattle.tta_arch.specs.declared.parts.Op.TheVariants.{Ldw, Stw, Ldf, Stf, Out, Take, Set}
-use Rattle.tta_arch.specs.Machine.{Machine}
-use Rattle.tta_arch.specs.Effects.{Brought, Written, operand_word, start_of, target_of}
-use Rattle.tta_code.specs.declared.code.Move.{Move}
-use Rattle.tta_code.specs.declared.code.Instruction.{Instruction}
-use Rattle.tta_code.specs.Cycle.{State}
-use Rattle.tta_places.specs.Carried.{carried, slots_of}
+use Rattle.tta_profile.specs.Cited.{Op, Ldw, Stw, Ldf, Stf, Out, Take, Set, Machine, Brought, Written, operand_word, start_of, target_of, Move, Instruction, State, carried, slots_of}
 use Rattle.tta_profile.specs.declared.outside.Space.{Space}
 use Rattle.tta_profile.specs.declared.outside.Space.TheVariants.{Data, Frame}
 use Rattle.tta_profile.specs.Counts.{Counts, is_made, states}

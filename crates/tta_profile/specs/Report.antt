@@ -3,15 +3,9 @@ use Rattle.std.specs.Prelude.{◌≡◌, ℕ, ◌+◌, ◌-◌, ◌*◌, ◌/◌
 use Rattle.std.specs.Option.{option_map_or}
 use Rattle.std.specs.List.{flat_map, filter_map, enumerate_from, sum_by}
 use Rattle.std.specs.List.Sorted.{IsNonDecreasingBy}
-use Rattle.tta_ops.specs.Units.{Units}
-use Rattle.tta_arch.specs.declared.parts.Bus.{Bus}
+use Rattle.tta_profile.specs.Cited.{Units, Bus, Dest, Machine, Move, Instruction, instruction_text}
 use Rattle.tta_arch.specs.declared.parts.Unit.{Unit as OpUnit}
-use Rattle.tta_arch.specs.declared.ends.Dest.{Dest}
 use Rattle.tta_arch.specs.declared.ends.Dest.TheVariants as dest
-use Rattle.tta_arch.specs.Machine.{Machine}
-use Rattle.tta_code.specs.declared.code.Move.{Move}
-use Rattle.tta_code.specs.declared.code.Instruction.{Instruction}
-use Rattle.tta_asm.specs.Canonical.{instruction_text}
 use Rattle.tta_profile.specs.declared.sums.Test.{Test}
 use Rattle.tta_profile.specs.declared.sums.Test.TheVariants as test
 use Rattle.tta_profile.specs.declared.hot.Hot.{Hot}

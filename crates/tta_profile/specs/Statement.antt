@@ -1,9 +1,6 @@
 -- What a profile of a run is.
 use Rattle.std.specs.Prelude.{◌≡◌, ℕ, List, []}
-use Rattle.tta_ops.specs.Units.{Units}
-use Rattle.tta_arch.specs.Machine.{Machine}
-use Rattle.tta_code.specs.declared.code.Code.{Code}
-use Rattle.tta_code.specs.Cycle.{State, next}
+use Rattle.tta_profile.specs.Cited.{Units, Machine, Code, State, next}
 use Rattle.tta_profile.specs.Counts.{Counts, AreCounts}
 use Rattle.tta_profile.specs.Outside.{AreOutside}
 use Rattle.tta_profile.specs.Report.{IsReport}

@@ -1,10 +1,6 @@
 -- What a cycle adds to the counts.
 use Rattle.std.specs.Prelude.{◌≡◌, ℕ, ◌+◌, ◌*◌, ◌<◌, ◌^◌, Bool, true, false, if◌then◌else◌, List, slice_index}
-use Rattle.tta_list.specs.Input.{left}
-use Rattle.tta_arch.specs.Machine.{Machine}
-use Rattle.tta_arch.specs.Effects.{Written}
-use Rattle.tta_code.specs.declared.code.Instruction.{Instruction}
-use Rattle.tta_code.specs.Cycle.{State}
+use Rattle.tta_profile.specs.Cited.{left, Machine, Written, Instruction, State}
 use Rattle.tta_profile.specs.declared.counting.Went.{Went}
 use Rattle.tta_profile.specs.declared.counting.Went.TheVariants.{On, Over}
 use Rattle.tta_profile.specs.Counts.{Counts, is_made, carries, stops}

@@ -1,11 +1,7 @@
 -- What comes of lines one after another.
 use Rattle.std.proofs.Common.{◌≡◌, ℕ, Bool, true, false, true≢false, if◌then◌else◌, List, [], ◌∷◌, ◌++◌, Some, None, Option, refl, sym, ap, ◌∙◌, append_assoc, append-nil}
-use Rattle.tta_lines.specs.Come.{Come, with_lines}
-use Rattle.tta_ops.specs.Units.{Units}
-use Rattle.tta_arch.specs.Machine.{Machine}
+use Rattle.tta_prompt.specs.Cited.{Come, with_lines, Units, Machine, Debugged, saying_first, line_text, line_leaves, line_goes}
 use Rattle.tta_code.specs.declared.code.Code.{Code}
-use Rattle.tta_debug.specs.Debugged.{Debugged, saying_first}
-use Rattle.tta_debug.specs.Scripts.{line_text, line_leaves, line_goes}
 use Rattle.tta_debug.proofs.Folding.{goes_true}
 use Rattle.tta_prompt.specs.Prompted.{prompt_line, prompted, is_open}
 

@@ -2,15 +2,9 @@
 use Rattle.std.proofs.Common.{◌≡◌, ℕ, ◌+◌, ◌-◌, true, false, List, [], ◌∷◌, ◌++◌, length, refl, sym, ap, ◌∙◌, subst, inr, arith}
 use Rattle.std.specs.Prelude.{Result, Ok, Err}
 use Rattle.std.proofs.lemmas.List.Sums.{sum_by-append}
-use Rattle.tta_ports.specs.Output.{Output, IsPut}
+use Rattle.tta_prompt.specs.Cited.{Output, IsPut, Come, with_lines, Units, Machine, Debugged, Done, Session', Follows, line_text}
 use Rattle.tta_print.proofs.Puts.{append_known-nil}
-use Rattle.tta_lines.specs.Come.{Come, with_lines}
-use Rattle.tta_ops.specs.Units.{Units}
-use Rattle.tta_arch.specs.Machine.{Machine}
 use Rattle.tta_code.specs.declared.code.Code.{Code}
-use Rattle.tta_debug.specs.Debugged.{Debugged, Done}
-use Rattle.tta_debug.specs.Sessions.{Session', Follows}
-use Rattle.tta_debug.specs.Scripts.{line_text}
 use Rattle.tta_debug.proofs.Folding.{put_after}
 use Rattle.tta_prompt.specs.declared.error.PromptError.{PromptError}
 use Rattle.tta_prompt.specs.declared.error.PromptError.TheVariants.{LinesFailed, TooLong, NoMemory, SinkFailed}

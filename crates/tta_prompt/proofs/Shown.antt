@@ -1,10 +1,7 @@
 -- What is shown at a prompt alone.
 use Rattle.std.proofs.Common.{◌≡◌, ◌+◌, ℕ, suc, true, List, [], ◌++◌, Some, None, Option, refl, sym, ap, ◌∙◌, append_assoc, append-nil, subst}
 use Rattle.std.specs.Prelude.{Ok, Err}
-use Rattle.tta_ports.specs.Output.{Output, IsPut, IsCut}
-use Rattle.tta_ports.specs.declared.error.Failed.{Failed}
-use Rattle.tta_debug.specs.Debugged.{Debugged}
-use Rattle.tta_debug.specs.Sessions.{Session', Follows}
+use Rattle.tta_prompt.specs.Cited.{Output, IsPut, IsCut, Failed, Debugged, Session', Follows}
 use Rattle.tta_prompt.specs.Texts.{register_line, register_lines}
 use Rattle.tta_prompt.specs.Prompted.{shown}
 use Rattle.tta_prompt.specs.Endings.{AnswersLine, PutsText}

@@ -1,17 +1,9 @@
 -- How a session at a prompt ends.
 use Rattle.std.specs.Prelude.{◌≡◌, ◌⊎◌, ℕ, ◌+◌, ◌-◌, ◌^◌, Bool, true, false, Option, Some, None, List, [], ◌∷◌, ◌++◌, length, Result, Ok, Err}
 use Rattle.std.specs.List.{sum_by}
-use Rattle.tta_ports.specs.Output.{Output, IsPut, IsCut, IsQuiet}
-use Rattle.tta_ports.specs.declared.error.Failed.{Failed}
+use Rattle.tta_prompt.specs.Cited.{Output, IsPut, IsCut, IsQuiet, Failed, reply_text, Come, with_lines, with_end, with_overlong, IsFailed, Units, Machine, Debugged, Done, Session', Follows, IsStopped, PutsLine, line_text, line_says, line_goes, line_leaves}
 use Rattle.tta_print.specs.declared.reply.Reply.TheVariants as reply
-use Rattle.tta_print.specs.Replies.{reply_text}
-use Rattle.tta_lines.specs.Come.{Come, with_lines, with_end, with_overlong, IsFailed}
-use Rattle.tta_ops.specs.Units.{Units}
-use Rattle.tta_arch.specs.Machine.{Machine}
 use Rattle.tta_code.specs.declared.code.Code.{Code}
-use Rattle.tta_debug.specs.Debugged.{Debugged, Done}
-use Rattle.tta_debug.specs.Sessions.{Session', Follows, IsStopped, PutsLine}
-use Rattle.tta_debug.specs.Scripts.{line_text, line_says, line_goes, line_leaves}
 use Rattle.tta_prompt.specs.declared.error.PromptError.{PromptError}
 use Rattle.tta_prompt.specs.declared.error.PromptError.TheVariants.{LinesFailed, TooLong, NoMemory, SinkFailed}
 use Rattle.tta_prompt.specs.Prompted.{prompt_line, prompted, is_open}

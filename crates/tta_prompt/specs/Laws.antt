@@ -1,10 +1,7 @@
 -- What a session at a prompt has in common with one of a script.
 use Rattle.std.specs.Prelude.{◌≡◌, ℕ, List, All, None}
-use Rattle.tta_ops.specs.Units.{Units}
-use Rattle.tta_arch.specs.Machine.{Machine}
+use Rattle.tta_prompt.specs.Cited.{Units, Machine, words_of, Debugged, session}
 use Rattle.tta_code.specs.declared.code.Code.{Code}
-use Rattle.tta_debug.specs.Words.{words_of}
-use Rattle.tta_debug.specs.Debugged.{Debugged, session}
 use Rattle.tta_prompt.specs.Own.{own_by}
 use Rattle.tta_prompt.specs.Prompted.{prompted}
 

@@ -1,3 +1,4 @@
+pub mod Cited
 pub mod Own
 pub mod Texts
 pub mod Prompted

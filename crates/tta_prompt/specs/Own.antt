@@ -1,7 +1,6 @@
 -- What the words of a line ask at a prompt alone.
 use Rattle.std.specs.Prelude.{[], ◌∷◌, Option, Some, None, option_map, if◌then◌else◌, codes}
-use Rattle.tta_reading.specs.Lines.{Lexeme, Line}
-use Rattle.tta_reading.specs.Words.{is_keyword, value_of}
+use Rattle.tta_prompt.specs.Cited.{Lexeme, Line, is_keyword, value_of}
 use Rattle.tta_prompt.specs.declared.own.Own.{Own}
 use Rattle.tta_prompt.specs.declared.own.Own.TheVariants.{Help, Regs, Code, Slot}
 

@@ -1,11 +1,7 @@
 -- A debugger's session at a prompt: what comes of each line, and of lines one after another.
 use Rattle.std.specs.Prelude.{ℕ, Bool, true, false, if◌then◌else◌, List, [], ◌∷◌, Option, Some, None, Result, Ok, Err}
-use Rattle.tta_ops.specs.Units.{Units}
-use Rattle.tta_arch.specs.Machine.{Machine}
+use Rattle.tta_prompt.specs.Cited.{Units, Machine, words_of, Debugged, Done, command, goes_on, line_goes, line_leaves}
 use Rattle.tta_code.specs.declared.code.Code.{Code}
-use Rattle.tta_debug.specs.Words.{words_of}
-use Rattle.tta_debug.specs.Debugged.{Debugged, Done, command, goes_on}
-use Rattle.tta_debug.specs.Scripts.{line_goes, line_leaves}
 use Rattle.tta_prompt.specs.declared.own.Own.{Own}
 use Rattle.tta_prompt.specs.Own.{own_by}
 use Rattle.tta_prompt.specs.Texts.{own_text}

@@ -1,13 +1,8 @@
 -- What is shown at a prompt alone.
 use Rattle.std.specs.Prelude.{ℕ, zero, suc, ◌+◌, List, [], ◌++◌, Option, Some, None, option_map, slice_get, codes, decimal}
 use Rattle.std.specs.List.{flat_map, enumerate_from}
-use Rattle.tta_ops.specs.Units.{Units}
-use Rattle.tta_arch.specs.declared.parts.File.{File}
-use Rattle.tta_arch.specs.Machine.{Machine}
-use Rattle.tta_arch.specs.Effects.{KeptReg, kept}
+use Rattle.tta_prompt.specs.Cited.{Units, File, Machine, KeptReg, kept, State, place_text, instruction_text}
 use Rattle.tta_code.specs.declared.code.Code.{Code}
-use Rattle.tta_code.specs.Cycle.{State}
-use Rattle.tta_asm.specs.Canonical.{place_text, instruction_text}
 use Rattle.tta_prompt.specs.declared.own.Own.{Own}
 use Rattle.tta_prompt.specs.declared.own.Own.TheVariants as own
 

@@ -1,8 +1,7 @@
 -- The values of constants are words.
 use Rattle.std.proofs.Common.{◌≡◌, ℕ, ◌^◌, true, List, Some, refl}
 use Rattle.std.specs.Prelude.{nat_lt}
-use Rattle.tta_text.specs.declared.lexeme.Kind.{Kind}
-use Rattle.tta_text.specs.declared.lexeme.Kind.TheVariants.{Number, Negative}
+use Rattle.tta_reading.specs.Cited.{Kind, Number, Negative}
 use Rattle.tta_text.proofs.Limits.{under, number_under, negative_under, is_under}
 use Rattle.tta_reading.specs.Words.{value_of, constant_of}
 

@@ -1,7 +1,6 @@
 -- How many lines a text can have.
 use Rattle.std.proofs.Common.{ℕ, ◌+◌, ◌≤◌, Bool, true, false, if◌then◌else◌, List, [], ◌∷◌, ◌++◌, length, arith}
-use Rattle.tta_text.specs.declared.lexeme.Token.{Token}
-use Rattle.tta_text.specs.Tokens.{tokens_from, tokens_of}
+use Rattle.tta_reading.specs.Cited.{Token, tokens_from, tokens_of}
 use Rattle.tta_text.proofs.Counted.{length-tokens_from}
 use Rattle.tta_reading.specs.Lines.{Line, is_line_end, lexeme_of, lines_from}
 

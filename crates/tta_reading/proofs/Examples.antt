@@ -1,9 +1,7 @@
 -- Small texts and their lines, and small lists of names, computed.
 use Rattle.std.proofs.Common.{◌≡◌, ℕ, [], ◌∷◌, ◌++◌, refl}
 use Rattle.std.specs.Prelude.{codes, Some, None}
-use Rattle.tta_text.specs.declared.lexeme.Kind.{Kind}
-use Rattle.tta_text.specs.declared.lexeme.Kind.TheVariants.{Name, Mark, Bad}
-use Rattle.tta_text.specs.Tokens.{tokens_of, tokens_from, piece_at, mark_piece}
+use Rattle.tta_reading.specs.Cited.{Kind, Name, Mark, Bad, tokens_of, tokens_from, piece_at, mark_piece}
 use Rattle.tta_reading.specs.Lines.{Lexeme, lines_of}
 use Rattle.tta_reading.specs.Names.{Declared, named_in}
 

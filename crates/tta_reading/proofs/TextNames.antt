@@ -4,12 +4,7 @@ use Rattle.std.specs.Prelude.{Some, slice_range, if◌then◌else◌}
 use Rattle.std.specs.List.{AllByRecursion}
 use Rattle.std.proofs.lemmas.List.{take_at, drop_at}
 use Rattle.tta_list.proofs.Lists.{all_append, all_push}
-use Rattle.tta_text.specs.declared.lexeme.Kind.{Kind}
-use Rattle.tta_text.specs.declared.lexeme.Kind.TheVariants.{Name, Number, Negative, Mark, Eol, Bad}
-use Rattle.tta_text.specs.declared.lexeme.Token.{Token}
-use Rattle.tta_text.specs.Words.{is_name, is_of_kind}
-use Rattle.tta_text.specs.Tokens.{tokens_of}
-use Rattle.tta_text.specs.Covers.{is_open, newlines, IsToken, Follow, last_end}
+use Rattle.tta_reading.specs.Cited.{Kind, Name, Number, Negative, Mark, Eol, Bad, Token, is_name, is_of_kind, tokens_of, is_open, newlines, IsToken, Follow, last_end}
 use Rattle.tta_text.proofs.Covering.{tokens_of-covers}
 use Rattle.tta_reading.specs.Lines.{Lexeme, Line, is_line_end, lexeme_of, lines_from, lines_of}
 use Rattle.tta_reading.specs.Words.{name_of}

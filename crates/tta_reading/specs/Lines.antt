@@ -1,9 +1,6 @@
 -- The lines of a text: its tokens, cut at each end of a line.
 use Rattle.std.specs.Prelude.{ℕ, Bool, true, false, if◌then◌else◌, List, [], ◌∷◌, ◌++◌, slice_range, map}
-use Rattle.tta_text.specs.declared.lexeme.Kind.{Kind}
-use Rattle.tta_text.specs.declared.lexeme.Kind.TheVariants.{Eol}
-use Rattle.tta_text.specs.declared.lexeme.Token.{Token}
-use Rattle.tta_text.specs.Tokens.{tokens_of}
+use Rattle.tta_reading.specs.Cited.{Kind, Eol, Token, tokens_of}
 use Rattle.tta_reading.specs.declared.word.Word.{Word}
 
 -- a word: the kind of a token and its bytes

@@ -1,9 +1,7 @@
 -- What a single word of a line can be.
 use Rattle.std.specs.Prelude.{ℕ, Bool, true, false, ◌&&◌, if◌then◌else◌, List, Option, Some, None}
 use Rattle.std.specs.Str.{bytes_eq}
-use Rattle.tta_text.specs.declared.lexeme.Kind.{Kind}
-use Rattle.tta_text.specs.declared.lexeme.Kind.TheVariants.{Name, Number, Negative, Mark}
-use Rattle.tta_text.specs.Numbers.{number_of, negative_of}
+use Rattle.tta_reading.specs.Cited.{Kind, Name, Number, Negative, Mark, number_of, negative_of}
 use Rattle.tta_reading.specs.Lines.{Lexeme}
 
 -- the kind of a name

@@ -3,29 +3,12 @@ use Rattle.std.proofs.Common.{◌≡◌, ℕ, zero, suc, ◌+◌, ◌*◌, ◌<�
 use Rattle.std.specs.Prelude.{if◌then◌else◌, nat_lt, nat_le}
 use Rattle.std.proofs.lemmas.Bool.{false≢true, ltb-true, ltb-false, leb-true, leb-false}
 use Rattle.std.proofs.lemmas.Option.{none-some}
-use Rattle.tta_list.specs.Prefix.{IsPrefixOf}
-use Rattle.tta_list.specs.Laid.{over}
+use Rattle.tta_realised.specs.Cited.{IsPrefixOf, over, Units, Machine, IsMachine, Program, step_count, Code, Whole, data_in, IsLegalWhole, State, Outcome, Running, Halted, Waiting, Fault, next, start, IsGiven, WaitAlike, AgreesAt, program_at, code_at, Circuit, bit, is_set, Store, HasHalted, IsOffered, Offer, IsReady, IsReset, Gives, Goes, Puts, PutWord, code_words, is_halted, is_fault, signals_at, cycles_at, put_at, AreClocks, IsStill, ShowsRun}
 use Rattle.tta_list.proofs.Prefixes.{prefix_chain}
 use Rattle.tta_list.proofs.Sets.{over-length}
 use Rattle.tta_list.proofs.Iterated.{iterate-later}
-use Rattle.tta_ops.specs.Units.{Units}
-use Rattle.tta_arch.specs.Machine.{Machine}
-use Rattle.tta_arch.specs.Rules.{IsMachine}
-use Rattle.tta_program.specs.Program.{Program, step_count}
 use Rattle.tta_program.specs.Sequential as program
-use Rattle.tta_code.specs.declared.code.Code.{Code}
-use Rattle.tta_code.specs.Whole.{Whole, data_in}
-use Rattle.tta_code.specs.Legal.{IsLegalWhole}
-use Rattle.tta_code.specs.Cycle.{State, Outcome, Running, Halted, Waiting, Fault, next, start}
-use Rattle.tta_agree.specs.Agrees.{IsGiven, WaitAlike, AgreesAt, program_at, code_at}
-use Rattle.tta_circuit.specs.Circuit.{Circuit}
-use Rattle.tta_circuit.specs.Meaning.{bit, is_set}
-use Rattle.tta_hardware.specs.Signals.{Store, Signal as Named, HasHalted, IsOffered, Offer, IsReady, IsReset, Gives, Goes, Puts, PutWord}
-use Rattle.tta_hardware.specs.Hardware.{code_words}
-use Rattle.tta_hardware.specs.Stands.{is_halted}
-use Rattle.tta_hardware.specs.Theorem.{is_fault}
-use Rattle.tta_hardware.specs.Runs.{signals_at, cycles_at, put_at, AreClocks, IsStill}
-use Rattle.tta_hardware.specs.Images.{ShowsRun}
+use Rattle.tta_hardware.specs.Signals.{Signal as Named}
 use Rattle.tta_hardware.proofs.Running.{waited, stands_still}
 use Rattle.tta_hardware.proofs.Pins.{goes_by, goes_is}
 use Rattle.tta_hardware.proofs.Imaging.{shows_run}

@@ -1,18 +1,7 @@
 -- What the circuit of code does that agrees with a program, and that of a built image.
 use Rattle.std.specs.Prelude.{◌≡◌, ℕ, ◌<◌, List, length}
-use Rattle.tta_ops.specs.Units.{Units}
-use Rattle.tta_arch.specs.Machine.{Machine}
-use Rattle.tta_arch.specs.Rules.{IsMachine}
-use Rattle.tta_program.specs.Program.{Program, step_count}
-use Rattle.tta_code.specs.Whole.{Whole}
-use Rattle.tta_code.specs.Legal.{IsLegalWhole}
-use Rattle.tta_agree.specs.Agrees.{IsGiven, AgreesAt, Agrees}
-use Rattle.tta_build.specs.Statement.{IsBuilt}
-use Rattle.tta_image.specs.Image.{Image}
+use Rattle.tta_realised.specs.Cited.{Units, Machine, IsMachine, Program, step_count, Whole, IsLegalWhole, IsGiven, AgreesAt, Agrees, IsBuilt, Image, code_words, image_words, AreClocks}
 use Rattle.tta_hardware.specs.Signals.{Signal as Named}
-use Rattle.tta_hardware.specs.Hardware.{code_words}
-use Rattle.tta_hardware.specs.Words.{image_words}
-use Rattle.tta_hardware.specs.Runs.{AreClocks}
 use Rattle.tta_realised.specs.Realised.{circuit_on, DoesAs}
 
 -- The circuit of legal code that agrees with a program does what the program does: from every memory, for every input, whatever words

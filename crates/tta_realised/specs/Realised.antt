@@ -1,18 +1,8 @@
 -- What a circuit does beside a program.
 use Rattle.std.specs.Prelude.{◌≡◌, ℕ, ◌+◌, ◌*◌, ◌≤◌, true, false, List, [], drop}
-use Rattle.tta_list.specs.Prefix.{IsPrefixOf}
-use Rattle.tta_list.specs.Laid.{over}
-use Rattle.tta_ops.specs.Units.{Units}
-use Rattle.tta_arch.specs.Machine.{Machine}
-use Rattle.tta_program.specs.Program.{Program}
+use Rattle.tta_realised.specs.Cited.{IsPrefixOf, over, Units, Machine, Program, Whole, data_in, program_at, Circuit, is_set, Store, Data, HasHalted, Asks, circuit_with, held_at, signals_at, cycles_at, taken_at, put_at}
 use Rattle.tta_program.specs.Sequential as program
-use Rattle.tta_code.specs.Whole.{Whole, data_in}
-use Rattle.tta_agree.specs.Agrees.{program_at}
-use Rattle.tta_circuit.specs.Circuit.{Circuit}
-use Rattle.tta_circuit.specs.Meaning.{is_set}
-use Rattle.tta_hardware.specs.Signals.{Store, Data, Signal as Named, HasHalted, Asks}
-use Rattle.tta_hardware.specs.Hardware.{circuit_with}
-use Rattle.tta_hardware.specs.Runs.{held_at, signals_at, cycles_at, taken_at, put_at}
+use Rattle.tta_hardware.specs.Signals.{Signal as Named}
 
 -- the circuit of a machine whose memory of code has these words, and whose data space has the data of code over a memory
 abbrev pub circuit_on : Machine → Whole → (words memory : List ℕ) → Circuit Named Store

@@ -5,9 +5,8 @@ use Rattle.std.specs.List.{list_any}
 use Rattle.std.proofs.lemmas.Bool.{and_parts}
 use Rattle.std.proofs.lemmas.Bool.Decides.{nat_tests}
 use Rattle.std.proofs.lemmas.List.Folds.{list_any-append, list_all_at}
-use Rattle.tta_arch.specs.declared.ends.Source.{Source}
+use Rattle.tta_reload.specs.Cited.{Source, same_end}
 use Rattle.tta_arch.specs.declared.ends.Source.TheVariants as source
-use Rattle.tta_moves.specs.Forms.{same_end}
 use Rattle.tta_moves.proofs.Places.{either}
 use Rattle.tta_reload.specs.declared.facts.Fact.{Fact}
 use Rattle.tta_reload.specs.Known.{fact, have_one}

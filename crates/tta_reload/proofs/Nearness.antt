@@ -4,17 +4,9 @@ use Rattle.std.specs.Prelude.{if◌then◌else◌, ◌==◌, ◌||◌, not, filt
 use Rattle.std.specs.Option.{option_map_or, option_to_list}
 use Rattle.std.proofs.lemmas.Bool.{and_parts, not-true}
 use Rattle.std.proofs.lemmas.Bool.Decides.{nat_tests}
-use Rattle.tta_ops.specs.Units.{Units}
-use Rattle.tta_arch.specs.declared.parts.UnitOp.{UnitOp}
-use Rattle.tta_arch.specs.declared.parts.Op.{Op}
-use Rattle.tta_arch.specs.declared.parts.Op.TheVariants.{Ldw, Stw, Ldf, Stf, Out, Take, Set}
-use Rattle.tta_arch.specs.Machine.{Machine}
-use Rattle.tta_arch.specs.Effects.{Target, Reg, Imm, Operand, Trigger, Control, Effect, op_at, Start, start_of, operand_word, store_frame}
-use Rattle.tta_moves.specs.declared.items.Item.{Item}
-use Rattle.tta_moves.specs.Touches.{target_of_item}
-use Rattle.tta_moves.specs.Meaning.{Held, lacks}
+use Rattle.tta_reload.specs.Cited.{Units, UnitOp, Op, Ldw, Stw, Ldf, Stf, Out, Take, Set, Machine, Target, Reg, Imm, Trigger, Control, Effect, op_at, Start, start_of, operand_word, store_frame, Item, target_of_item, Held, lacks, starts, stores_frame, may_wait}
+use Rattle.tta_arch.specs.Effects.{Operand}
 use Rattle.tta_moves.proofs.Places.{either}
-use Rattle.tta_order.specs.Channels.{starts, stores_frame, may_wait}
 use Rattle.tta_order.proofs.Carried.{carried_on}
 use Rattle.tta_reload.specs.Known.{is_load, loaded, stored}
 use Rattle.tta_reload.specs.Thinned.{is_in, is_over}

@@ -2,18 +2,10 @@
 use Rattle.std.proofs.Common.{◌≡◌, ℕ, true, List, ◌∷◌, Option, Some, None, refl, ap, ◌∙◌}
 use Rattle.std.specs.Prelude.{◌==◌, if◌then◌else◌, nat_lt, option_map, option_and_then, filter, ◌++◌}
 use Rattle.std.specs.Option.{option_map_or}
-use Rattle.tta_arch.specs.declared.ends.Source.{Source}
+use Rattle.tta_reload.specs.Cited.{Source, UnitOp, Machine, Target, Reg, Imm, Trigger, Control, KeptOperand, op_at, Port, Item, place_number, copied, same_end, sure_source, target_of_item, operand_place}
 use Rattle.tta_arch.specs.declared.ends.Source.TheVariants as source
-use Rattle.tta_arch.specs.declared.parts.UnitOp.{UnitOp}
-use Rattle.tta_arch.specs.Machine.{Machine}
-use Rattle.tta_arch.specs.Effects.{Target, Reg, Imm, Operand, Trigger, Control, KeptOperand, op_at}
-use Rattle.tta_moves.specs.declared.items.ItemSource.TheVariants.{Port}
-use Rattle.tta_moves.specs.declared.items.Item.{Item}
-use Rattle.tta_moves.specs.Numbers.{place_number}
-use Rattle.tta_moves.specs.Forms.{copied, same_end, sure_source}
-use Rattle.tta_moves.specs.Touches.{target_of_item}
+use Rattle.tta_arch.specs.Effects.{Operand}
 use Rattle.tta_moves.proofs.Places.{either}
-use Rattle.tta_order.specs.Channels.{operand_place}
 use Rattle.tta_reload.specs.declared.facts.Fact.{Fact}
 use Rattle.tta_reload.specs.Known.{fact, unit_of, port_of, register_in, stored, by_load, by_twin, by_store, by_copy, stays, known}
 use Rattle.tta_reload.specs.Facts.{is_among, are_among, StoresBy}

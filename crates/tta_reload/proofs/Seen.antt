@@ -3,23 +3,11 @@ use Rattle.std.proofs.Common.{◌≡◌, ℕ, ◌<◌, Bool, true, false, List, 
 use Rattle.std.specs.Prelude.{if◌then◌else◌, ◌==◌, ◌&&◌, not, is_none, nat_lt, option_map, option_and_then}
 use Rattle.std.specs.Option.{option_map_or}
 use Rattle.std.proofs.lemmas.Bool.{and_parts, ltb-true}
-use Rattle.tta_arch.specs.declared.ends.GuardRef.{GuardRef}
-use Rattle.tta_arch.specs.declared.ends.Source.{Source}
+use Rattle.tta_reload.specs.Cited.{GuardRef, Source, UnitOp, Op, Ldw, Stw, Ldf, Stf, Out, Take, Set, Machine, Target, Reg, Imm, Trigger, Control, Place, KeptReg, KeptPort, KeptOperand, Written, kept, op_at, has_result, width_of, ItemSource, Port, Address, Item, guard_of, source_of, target_of_item, place_of, place_written, read_held, sure_source, copied, same_source, starts, stores_frame, operand_place}
 use Rattle.tta_arch.specs.declared.ends.Source.TheVariants as source
-use Rattle.tta_arch.specs.declared.parts.UnitOp.{UnitOp}
-use Rattle.tta_arch.specs.declared.parts.Op.{Op}
-use Rattle.tta_arch.specs.declared.parts.Op.TheVariants.{Ldw, Stw, Ldf, Stf, Out, Take, Set}
-use Rattle.tta_arch.specs.Machine.{Machine}
-use Rattle.tta_arch.specs.Effects.{Target, Reg, Imm, Operand, Trigger, Control, Place, KeptReg, KeptPort, KeptOperand, Written, kept, op_at, has_result, width_of}
-use Rattle.tta_moves.specs.declared.items.ItemSource.{ItemSource}
-use Rattle.tta_moves.specs.declared.items.ItemSource.TheVariants.{Port, Address}
-use Rattle.tta_moves.specs.declared.items.Item.{Item}
-use Rattle.tta_moves.specs.Touches.{guard_of, source_of, target_of_item, place_of, place_written}
-use Rattle.tta_moves.specs.Meaning.{read_held}
-use Rattle.tta_moves.specs.Forms.{sure_source, copied, same_source}
+use Rattle.tta_arch.specs.Effects.{Operand}
 use Rattle.tta_moves.proofs.Places.{either}
 use Rattle.tta_optim.proofs.Copies.{is_whole, Copies, guard_none as sure_is}
-use Rattle.tta_order.specs.Channels.{starts, stores_frame, operand_place}
 use Rattle.tta_reload.specs.Known.{is_load, word_of, port_of, loaded, stored, register_in, twin}
 use Rattle.tta_reload.proofs.Holding.{end_is}
 

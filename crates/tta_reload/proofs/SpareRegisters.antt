@@ -5,11 +5,7 @@ use Rattle.std.specs.List.{list_all}
 use Rattle.std.proofs.lemmas.Bool.{and_parts, lt-ltb}
 use Rattle.std.proofs.lemmas.Bool.Decides.{nat_tests}
 use Rattle.std.proofs.lemmas.List.Folds.{list_all-append}
-use Rattle.tta_arch.specs.Effects.{KeptReg}
-use Rattle.tta_moves.specs.declared.items.Item.{Item}
-use Rattle.tta_moves.specs.declared.items.BlockList.{BlockList}
-use Rattle.tta_moves.specs.Touches.{reads}
-use Rattle.tta_moves.specs.Runs.{lives}
+use Rattle.tta_reload.specs.Cited.{KeptReg, Item, BlockList, reads, lives}
 use Rattle.tta_reload.specs.Copied.{AreSpare}
 
 all_true : {A : Type 0} (xs : List A) → list_all (λ (x : A). true) xs ≡ true

@@ -5,19 +5,8 @@ use Rattle.std.specs.List.{list_all, list_any}
 use Rattle.std.proofs.lemmas.Bool.{and_parts}
 use Rattle.std.proofs.lemmas.Bool.Decides.{nat_tests}
 use Rattle.std.proofs.lemmas.List.Sums.{sum_by-cons}
-use Rattle.tta_arch.specs.declared.ends.Source.{Source}
-use Rattle.tta_arch.specs.Machine.{Machine}
-use Rattle.tta_arch.specs.Effects.{Target, Reg, KeptReg, same_place}
-use Rattle.tta_connect.specs.Coverage.{hub_of}
-use Rattle.tta_moves.specs.declared.items.ItemSource.TheVariants.{Port}
-use Rattle.tta_moves.specs.declared.items.Item.{Item}
-use Rattle.tta_moves.specs.declared.items.Item.TheVariants.{Move, Long}
-use Rattle.tta_moves.specs.declared.items.BlockList.{BlockList}
-use Rattle.tta_moves.specs.Touches.{target_of_item}
-use Rattle.tta_moves.specs.Forms.{is_straight}
+use Rattle.tta_reload.specs.Cited.{Source, Machine, Target, Reg, KeptReg, same_place, hub_of, Port, Item, Move, Long, BlockList, target_of_item, is_straight, KeepsMeaning, names, aim_of, is_scratch, AsksNoMore, IsStandIn, with_source}
 use Rattle.tta_moves.proofs.Places.{either}
-use Rattle.tta_optim.specs.Kept.{KeepsMeaning, names, aim_of, is_scratch, AsksNoMore, IsStandIn}
-use Rattle.tta_optim.specs.Passes.{with_source}
 use Rattle.tta_optim.proofs.Meanings.{framed_of, framed_next}
 use Rattle.tta_reload.specs.Reworked.{IsReworked}
 use Rattle.tta_reload.specs.Known.{IsServed, AreServed}

@@ -6,16 +6,7 @@ use Rattle.std.specs.List.{list_any, list_all}
 use Rattle.std.proofs.lemmas.Bool.{and_parts, or_parts, not-true}
 use Rattle.std.proofs.lemmas.List.{get_or-replicate, length-replicate, drop_more, drop_all}
 use Rattle.std.proofs.lemmas.Option.{slice_get-get_or}
-use Rattle.tta_arch.specs.Machine.{Machine}
-use Rattle.tta_arch.specs.Rules.{IsMachine}
-use Rattle.tta_arch.specs.Effects.{Place, same_place}
-use Rattle.tta_moves.specs.declared.items.ItemSource.{ItemSource}
-use Rattle.tta_moves.specs.declared.items.Item.{Item}
-use Rattle.tta_moves.specs.declared.items.Item.TheVariants.{Move, Long}
-use Rattle.tta_moves.specs.Touches.{source_of, target_of_item, place_of_source, place_written, is_at, is_unguarded}
-use Rattle.tta_moves.specs.Numbers.{place_number, is_place}
-use Rattle.tta_moves.specs.Slots.{joined, has_slot}
-use Rattle.tta_moves.specs.Forms.{sure_source, is_port_source, is_passing, trail, is_detour, none_after, is_straight}
+use Rattle.tta_reload.specs.Cited.{Machine, IsMachine, Place, same_place, ItemSource, Item, Move, Long, source_of, target_of_item, place_of_source, place_written, is_at, is_unguarded, place_number, is_place, joined, has_slot, sure_source, is_port_source, is_passing, trail, is_detour, none_after, is_straight}
 use Rattle.tta_moves.proofs.Places.{either}
 use Rattle.tta_moves.proofs.InRange.{one_place, number_below, InRange, in_range}
 use Rattle.tta_reload.specs.declared.straight.Trail.{Trail}

@@ -6,12 +6,8 @@ use Rattle.std.proofs.lemmas.Bool.Decides.{nat_tests}
 use Rattle.std.proofs.lemmas.List.{drop_all}
 use Rattle.std.proofs.lemmas.List.Folds.{list_any-append}
 use Rattle.std.proofs.lemmas.Bool.{and_from}
-use Rattle.tta_arch.specs.Machine.{Machine}
-use Rattle.tta_arch.specs.Effects.{Target}
-use Rattle.tta_moves.specs.declared.items.Item.{Item}
-use Rattle.tta_moves.specs.Touches.{target_of_item}
+use Rattle.tta_reload.specs.Cited.{Machine, Target, Item, target_of_item, starts, stores_frame}
 use Rattle.tta_moves.proofs.Places.{either}
-use Rattle.tta_order.specs.Channels.{starts, stores_frame}
 use Rattle.tta_reload.specs.declared.accesses.Operand.{Operand}
 use Rattle.tta_reload.specs.Known.{is_load, stored}
 use Rattle.tta_reload.specs.Facts.{IsOperand}

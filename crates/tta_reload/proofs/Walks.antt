@@ -1,14 +1,11 @@
 -- Walks down a list, item by item.
 use Rattle.std.proofs.Common.{◌≡◌, ℕ, ◌+◌, ◌<◌, ◌≤◌, true, List, [], ◌∷◌, ◌++◌, length, drop, get_or, sym, ap, subst, ◌∙◌, append_assoc, append-nil}
 use Rattle.std.proofs.lemmas.List.{drop_more, drop_all}
-use Rattle.tta_arch.specs.Machine.{Machine}
-use Rattle.tta_moves.specs.declared.items.Item.{Item}
+use Rattle.tta_reload.specs.Cited.{Machine, Item, KeptReg, is_unguarded}
 use Rattle.tta_reload.specs.declared.known.Known.{Known}
 use Rattle.tta_reload.specs.Known.{AreServed}
 use Rattle.tta_reload.specs.Facts.{Knows, GoesOn}
 use Rattle.tta_reload.specs.Reworked.{AreWorked}
-use Rattle.tta_arch.specs.Effects.{KeptReg}
-use Rattle.tta_moves.specs.Touches.{is_unguarded}
 use Rattle.tta_reload.specs.Copied.{is_one_of, copy_of, AreCopied, ends, stays, copies}
 
 -- The copies so far are made, the items so far are served, and what is known after them is noted.

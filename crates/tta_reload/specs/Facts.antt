@@ -2,14 +2,7 @@
 use Rattle.std.specs.Prelude.{◌≡◌, ℕ, ◌==◌, Bool, true, ◌&&◌, List, ◌∷◌, Option, Some, IfSome, option_map, ◌++◌, []}
 use Rattle.std.specs.List.{list_all, list_any}
 use Rattle.tta_arch.specs.declared.ends.Source.TheVariants as source
-use Rattle.tta_arch.specs.Machine.{Machine}
-use Rattle.tta_arch.specs.Effects.{KeptOperand}
-use Rattle.tta_moves.specs.declared.items.ItemSource.TheVariants.{Port}
-use Rattle.tta_moves.specs.declared.items.Item.{Item}
-use Rattle.tta_moves.specs.Forms.{same_end, copied}
-use Rattle.tta_moves.specs.Touches.{target_of_item, place_written, is_unguarded}
-use Rattle.tta_moves.specs.Numbers.{place_number}
-use Rattle.tta_order.specs.Channels.{starts, stores_frame, operand_place}
+use Rattle.tta_reload.specs.Cited.{Machine, KeptOperand, Port, Item, same_end, copied, target_of_item, place_written, is_unguarded, place_number, starts, stores_frame, operand_place}
 use Rattle.tta_reload.specs.declared.accesses.Operand.{Operand}
 use Rattle.tta_reload.specs.declared.known.Known.{Known}
 use Rattle.tta_reload.specs.declared.known.Change.{Change}

@@ -1,10 +1,6 @@
 -- A block's list with copies and served reads, and without stores that are stored over.
 use Rattle.std.specs.Prelude.{◌≡◌, ℕ, true, List, [], Option, IfSome}
-use Rattle.tta_arch.specs.Machine.{Machine}
-use Rattle.tta_moves.specs.declared.items.Item.{Item}
-use Rattle.tta_moves.specs.declared.items.BlockList.{BlockList}
-use Rattle.tta_moves.specs.Slots.{is_list}
-use Rattle.tta_optim.specs.Kept.{IsStandIn}
+use Rattle.tta_reload.specs.Cited.{Machine, Item, BlockList, is_list, IsStandIn}
 use Rattle.tta_reload.specs.Known.{AreServed}
 use Rattle.tta_reload.specs.Copied.{AreCopied, AreSpare}
 use Rattle.tta_reload.specs.Thinned.{AreThinned}

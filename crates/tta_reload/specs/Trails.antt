@@ -1,14 +1,7 @@
 -- Whether a list is straight, by a table of the trails of all places.
 use Rattle.std.specs.Prelude.{ℕ, Bool, true, false, not, ◌&&◌, ◌||◌, if◌then◌else◌, List, [], ◌∷◌, Option, Some, None, is_some, option_map, slice_get, slice_set}
 use Rattle.std.specs.Option.{option_map_or}
-use Rattle.tta_arch.specs.Machine.{Machine}
-use Rattle.tta_moves.specs.declared.items.ItemSource.{ItemSource}
-use Rattle.tta_moves.specs.declared.items.Item.{Item}
-use Rattle.tta_moves.specs.declared.items.Item.TheVariants.{Move, Long}
-use Rattle.tta_moves.specs.Touches.{source_of, target_of_item, place_of_source, place_written, is_unguarded}
-use Rattle.tta_moves.specs.Numbers.{place_number}
-use Rattle.tta_moves.specs.Forms.{is_port_source, is_passing}
-use Rattle.tta_moves.specs.Slots.{joined}
+use Rattle.tta_reload.specs.Cited.{Machine, ItemSource, Item, Move, Long, source_of, target_of_item, place_of_source, place_written, is_unguarded, place_number, is_port_source, is_passing, joined}
 use Rattle.tta_reload.specs.declared.straight.Trail.{Trail}
 
 -- a trail without a source

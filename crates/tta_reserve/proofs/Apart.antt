@@ -4,16 +4,9 @@ use Rattle.std.specs.Prelude.{max, not, ◌&&◌, ◌==◌, if◌then◌else◌}
 use Rattle.std.specs.List.{list_all}
 use Rattle.std.proofs.lemmas.Bool.{and_parts, and_from, not-true}
 use Rattle.std.proofs.lemmas.Bool.Decides.{nat_tests}
-use Rattle.tta_arch.specs.declared.ends.Dest.{Dest}
+use Rattle.tta_reserve.specs.Cited.{Dest, Machine, same_place, Trigger, target_of, Item, PlacedItem, is_control, controls, written_at, writes_by, behind, least, in_cycle}
 use Rattle.tta_arch.specs.declared.ends.Dest.TheVariants as dest
-use Rattle.tta_arch.specs.Machine.{Machine}
-use Rattle.tta_arch.specs.Legal.{same_place}
-use Rattle.tta_arch.specs.Effects.{Trigger, target_of}
-use Rattle.tta_moves.specs.declared.items.Item.{Item}
 use Rattle.tta_moves.specs.declared.items.Item.TheVariants as item
-use Rattle.tta_moves.specs.declared.items.PlacedItem.{PlacedItem}
-use Rattle.tta_moves.specs.Touches.{is_control, controls}
-use Rattle.tta_moves.specs.Bounds.{written_at, writes_by, behind, least, in_cycle}
 use Rattle.tta_reserve.specs.Taken.{meets, is_apart}
 
 -- a test that holds would push the bound past the cycle

@@ -6,12 +6,8 @@ use Rattle.std.proofs.lemmas.List.{take_all}
 use Rattle.std.proofs.lemmas.Bool.{and_parts, cases_lt}
 use Rattle.std.proofs.lemmas.Bool.Decides.{nat_tests}
 use Rattle.tta_list.proofs.Lists.{slice_get-front, slice_get-back, list_all_weaker, zeros}
-use Rattle.tta_arch.specs.Machine.{Machine}
-use Rattle.tta_arch.specs.Legal.{Ends, ends_of, reads_file, reads_imm, writes_file}
+use Rattle.tta_reserve.specs.Cited.{Machine, Ends, ends_of, reads_file, reads_imm, writes_file, PlacedItem, slots_of, in_cycle}
 use Rattle.tta_arch.proofs.SetLemmas.{has_bit-empty}
-use Rattle.tta_moves.specs.declared.items.PlacedItem.{PlacedItem}
-use Rattle.tta_moves.specs.Slots.{slots_of}
-use Rattle.tta_moves.specs.Bounds.{in_cycle}
 use Rattle.tta_moves.proofs.FirstFitLaws.{nothing_fits}
 use Rattle.tta_reserve.specs.declared.row.Row.{Row}
 use Rattle.tta_reserve.specs.Booked.{empty_row, IsRow, StandsFor}

@@ -2,19 +2,8 @@
 use Rattle.std.proofs.Common.{◌≡◌, ℕ, ◌<◌, true, false, List, Option, Some, None, sym, ap, ◌∙◌}
 use Rattle.std.specs.Prelude.{slice_get}
 use Rattle.std.proofs.lemmas.Bool.{false_from_ne_true}
-use Rattle.tta_arch.specs.declared.ends.GuardRef.{GuardRef}
-use Rattle.tta_arch.specs.declared.ends.Dest.{Dest}
-use Rattle.tta_arch.specs.Machine.{Machine}
-use Rattle.tta_arch.specs.Rules.{IsMachine}
-use Rattle.tta_moves.specs.declared.items.ItemSource.{ItemSource}
-use Rattle.tta_moves.specs.declared.items.LongValue.{LongValue}
+use Rattle.tta_reserve.specs.Cited.{GuardRef, Dest, Machine, IsMachine, ItemSource, LongValue, Slot, Bus, Template, PlacedItem, carried, in_cycle, fits_beside, number_of}
 use Rattle.tta_moves.specs.declared.items.Item.TheVariants as item
-use Rattle.tta_moves.specs.declared.items.Slot.{Slot}
-use Rattle.tta_moves.specs.declared.items.Slot.TheVariants.{Bus, Template}
-use Rattle.tta_moves.specs.declared.items.PlacedItem.{PlacedItem}
-use Rattle.tta_moves.specs.Slots.{carried}
-use Rattle.tta_moves.specs.Bounds.{in_cycle}
-use Rattle.tta_moves.specs.FirstFit.{fits_beside, number_of}
 use Rattle.tta_reserve.specs.declared.row.Row.{Row}
 use Rattle.tta_reserve.specs.Taken.{is_apart}
 use Rattle.tta_reserve.specs.Booked.{StandsFor, IsLeastSlot}

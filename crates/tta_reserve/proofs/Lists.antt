@@ -5,8 +5,7 @@ use Rattle.std.specs.List.{list_all, list_any, range_with_len}
 use Rattle.std.proofs.Math.Bool.{or-false, or-true}
 use Rattle.std.proofs.lemmas.Bool.{and_parts, or_parts, not-true}
 use Rattle.std.proofs.lemmas.List.Folds.{list_all-append, list_any-append}
-use Rattle.tta_arch.specs.Rules.{are_different}
-use Rattle.tta_arch.specs.Effects.{first_some, or_else}
+use Rattle.tta_reserve.specs.Cited.{are_different, first_some, or_else}
 use Rattle.tta_arch.proofs.FirstSome.{or_none}
 
 -- ---- one more

@@ -4,15 +4,9 @@ use Rattle.std.proofs.Common.{◌≡◌, ℕ, true, false, List, [], ◌∷◌, 
 use Rattle.std.specs.List.{list_any}
 use Rattle.std.proofs.lemmas.List.{map_push}
 use Rattle.tta_list.proofs.Lists.{list_all_push}
-use Rattle.tta_arch.specs.Machine.{Machine}
-use Rattle.tta_arch.specs.Rules.{are_different}
-use Rattle.tta_arch.specs.Legal.{Slots, keeps_taken}
+use Rattle.tta_reserve.specs.Cited.{Machine, are_different, Slots, keeps_taken, LongValue, Template, PlacedItem, carries, clash, slots_of, taken_of}
 use Rattle.tta_arch.proofs.Lists.{different_push}
-use Rattle.tta_moves.specs.declared.items.LongValue.{LongValue}
 use Rattle.tta_moves.specs.declared.items.Item.TheVariants as item
-use Rattle.tta_moves.specs.declared.items.Slot.TheVariants.{Template}
-use Rattle.tta_moves.specs.declared.items.PlacedItem.{PlacedItem}
-use Rattle.tta_moves.specs.Slots.{carries, clash, slots_of, taken_of}
 use Rattle.tta_reserve.specs.Taken.{is_template, buses_of}
 use Rattle.tta_reserve.proofs.Lists.{all_last, different_last}
 use Rattle.tta_reserve.proofs.Pushed.{CanMove, Fits, long_on, same_slots, clash_is, takes_buses}

@@ -6,22 +6,11 @@ use Rattle.std.proofs.lemmas.List.{map_push}
 use Rattle.std.proofs.lemmas.Bool.{and_parts, and_from}
 use Rattle.std.proofs.lemmas.Bool.Decides.{nat_tests}
 use Rattle.tta_list.proofs.Lists.{list_all_push}
-use Rattle.tta_arch.specs.declared.ends.GuardRef.{GuardRef}
-use Rattle.tta_arch.specs.declared.ends.Source.{Source}
+use Rattle.tta_reserve.specs.Cited.{GuardRef, Source, Dest, Machine, IsMachine, are_different, joins, has_bit, Ends, Slots, ends_of, all_below, reads_file, reads_imm, writes_file, first_some, ItemSource, Bus, PlacedItem, carries, clash, slots_of, taken_of, ends_on}
 use Rattle.tta_arch.specs.declared.ends.Source.TheVariants as source
-use Rattle.tta_arch.specs.declared.ends.Dest.{Dest}
 use Rattle.tta_arch.specs.declared.ends.Dest.TheVariants as dest
-use Rattle.tta_arch.specs.Machine.{Machine}
-use Rattle.tta_arch.specs.Rules.{IsMachine, are_different}
-use Rattle.tta_arch.specs.Joins.{joins, has_bit}
-use Rattle.tta_arch.specs.Legal.{Ends, Slots, ends_of, all_below, reads_file, reads_imm, writes_file}
-use Rattle.tta_arch.specs.Effects.{first_some}
 use Rattle.tta_arch.proofs.Lists.{different_push}
-use Rattle.tta_moves.specs.declared.items.ItemSource.{ItemSource}
 use Rattle.tta_moves.specs.declared.items.Item.TheVariants as item
-use Rattle.tta_moves.specs.declared.items.Slot.TheVariants.{Bus}
-use Rattle.tta_moves.specs.declared.items.PlacedItem.{PlacedItem}
-use Rattle.tta_moves.specs.Slots.{carries, clash, slots_of, taken_of, ends_on}
 use Rattle.tta_moves.proofs.Buses.{joins_below}
 use Rattle.tta_reserve.specs.Taken.{file_reads, imm_reads, file_writes, is_apart}
 use Rattle.tta_reserve.proofs.Slots.{count_set, slots_set, below_map, apart_set}

@@ -6,20 +6,9 @@ use Rattle.std.specs.List.{list_any}
 use Rattle.std.proofs.lemmas.List.{map_push}
 use Rattle.std.proofs.lemmas.Bool.{and_parts}
 use Rattle.std.proofs.lemmas.Bool.Decides.{nat_tests}
-use Rattle.tta_arch.specs.declared.ends.GuardRef.{GuardRef}
-use Rattle.tta_arch.specs.declared.ends.Source.{Source}
+use Rattle.tta_reserve.specs.Cited.{GuardRef, Source, Dest, Machine, IsMachine, are_different, joins, has_bit, has_socket, is_source_on, is_dest_on, has_guard, Ends, has_writes, all_below, reads_file, reads_imm, writes_file, first_some, ItemSource, Bus, PlacedItem, carries, clash, slots_of, taken_of, ends_on}
 use Rattle.tta_arch.specs.declared.ends.Source.TheVariants as source
-use Rattle.tta_arch.specs.declared.ends.Dest.{Dest}
 use Rattle.tta_arch.specs.declared.ends.Dest.TheVariants as dest
-use Rattle.tta_arch.specs.Machine.{Machine}
-use Rattle.tta_arch.specs.Rules.{IsMachine, are_different}
-use Rattle.tta_arch.specs.Joins.{joins, has_bit, has_socket, is_source_on, is_dest_on, has_guard}
-use Rattle.tta_arch.specs.Legal.{Ends, has_writes, all_below, reads_file, reads_imm, writes_file}
-use Rattle.tta_arch.specs.Effects.{first_some}
-use Rattle.tta_moves.specs.declared.items.ItemSource.{ItemSource}
-use Rattle.tta_moves.specs.declared.items.Slot.TheVariants.{Bus}
-use Rattle.tta_moves.specs.declared.items.PlacedItem.{PlacedItem}
-use Rattle.tta_moves.specs.Slots.{carries, clash, slots_of, taken_of, ends_on}
 use Rattle.tta_moves.proofs.Buses.{joins_below}
 use Rattle.tta_reserve.specs.Taken.{file_reads, imm_reads, file_writes}
 use Rattle.tta_reserve.proofs.Lists.{all_last, different_last}

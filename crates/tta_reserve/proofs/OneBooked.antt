@@ -6,11 +6,7 @@ use Rattle.std.proofs.lemmas.Bool.{cases_eq, eq-eqb, ne_eqb, lt-ltb}
 use Rattle.std.proofs.lemmas.List.{length-set}
 use Rattle.std.proofs.lemmas.List.Elements.{filter-append}
 use Rattle.tta_list.proofs.Lists.{list_all_push}
-use Rattle.tta_arch.specs.Machine.{Machine}
-use Rattle.tta_arch.specs.Rules.{IsMachine}
-use Rattle.tta_moves.specs.declared.items.PlacedItem.{PlacedItem}
-use Rattle.tta_moves.specs.Slots.{fits_cycle}
-use Rattle.tta_moves.specs.Bounds.{in_cycle}
+use Rattle.tta_reserve.specs.Cited.{Machine, IsMachine, PlacedItem, fits_cycle, in_cycle}
 use Rattle.tta_reserve.specs.declared.row.Row.{Row}
 use Rattle.tta_reserve.specs.Booked.{IsRow, StandsFor}
 use Rattle.tta_reserve.specs.Adding.{with_item}

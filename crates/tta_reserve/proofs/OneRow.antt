@@ -3,24 +3,10 @@ use Rattle.std.proofs.Common.{◌≡◌, inl, inr, ℕ, ◌+◌, ◌<◌, true, 
 use Rattle.std.specs.Prelude.{slice_index, count_by, not, ◌||◌, ◌==◌, is_none, is_some}
 use Rattle.std.proofs.Math.Bool.{or-false, or-true}
 use Rattle.std.proofs.lemmas.Bool.{and_parts, cases_eq, eq-eqb, ne_eqb}
-use Rattle.tta_arch.specs.declared.ends.Source.{Source}
+use Rattle.tta_reserve.specs.Cited.{Source, Dest, GuardRef, Machine, IsMachine, has_bit, is_source_on, is_dest_on, Ends, ends_of, reads_file, reads_imm, writes_file, first_some, ItemSource, LongValue, Item, Slot, Bus, Template, PlacedItem, carried, carries, fits_cycle, taken_of, ends_on}
 use Rattle.tta_arch.specs.declared.ends.Source.TheVariants as source
-use Rattle.tta_arch.specs.declared.ends.Dest.{Dest}
 use Rattle.tta_arch.specs.declared.ends.Dest.TheVariants as dest
-use Rattle.tta_arch.specs.declared.ends.GuardRef.{GuardRef}
-use Rattle.tta_arch.specs.Machine.{Machine}
-use Rattle.tta_arch.specs.Rules.{IsMachine}
-use Rattle.tta_arch.specs.Joins.{has_bit, is_source_on, is_dest_on}
-use Rattle.tta_arch.specs.Legal.{Ends, ends_of, reads_file, reads_imm, writes_file}
-use Rattle.tta_arch.specs.Effects.{first_some}
-use Rattle.tta_moves.specs.declared.items.ItemSource.{ItemSource}
-use Rattle.tta_moves.specs.declared.items.LongValue.{LongValue}
-use Rattle.tta_moves.specs.declared.items.Item.{Item}
 use Rattle.tta_moves.specs.declared.items.Item.TheVariants as item
-use Rattle.tta_moves.specs.declared.items.Slot.{Slot}
-use Rattle.tta_moves.specs.declared.items.Slot.TheVariants.{Bus, Template}
-use Rattle.tta_moves.specs.declared.items.PlacedItem.{PlacedItem}
-use Rattle.tta_moves.specs.Slots.{carried, carries, fits_cycle, taken_of, ends_on}
 use Rattle.tta_moves.proofs.Buses.{joins_below}
 use Rattle.tta_reserve.specs.declared.row.Row.{Row}
 use Rattle.tta_reserve.specs.Taken.{is_template, buses_of, imm_reads}

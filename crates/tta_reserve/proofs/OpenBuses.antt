@@ -4,7 +4,7 @@ use Rattle.std.specs.Prelude.{◌==◌, ◌&&◌, not, bit_and}
 use Rattle.std.specs.Int.{bit_at, w16}
 use Rattle.std.proofs.lemmas.Bool.{cases_lt}
 use Rattle.std.proofs.lemmas.Nat.Bits.{bit_at_not, bit_at-lt}
-use Rattle.tta_arch.specs.Joins.{has_bit}
+use Rattle.tta_reserve.specs.Cited.{has_bit}
 use Rattle.tta_arch.proofs.SetLemmas.{has_bit-and}
 use Rattle.tta_arch.proofs.BusSources.{no_bus}
 

@@ -1,8 +1,7 @@
 -- Whether two destinations are one place does not depend on their order.
 use Rattle.std.proofs.Common.{◌≡◌, refl}
-use Rattle.tta_arch.specs.declared.ends.Dest.{Dest}
+use Rattle.tta_reserve.specs.Cited.{Dest, same_place}
 use Rattle.tta_arch.specs.declared.ends.Dest.TheVariants as dest
-use Rattle.tta_arch.specs.Legal.{same_place}
 use Rattle.tta_list.proofs.Tests.{same_back as eq_sym}
 
 pub same_sym : (a b : Dest) → same_place a b ≡ same_place b a

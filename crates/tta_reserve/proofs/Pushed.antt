@@ -5,20 +5,8 @@ use Rattle.std.specs.Option.{option_map_or}
 use Rattle.std.specs.List.{list_all, list_any, range_with_len}
 use Rattle.std.proofs.lemmas.Bool.{and_parts, and_from, eq-eqb, ne_eqb}
 use Rattle.tta_arch.specs.declared.parts.Template.{Template as Field}
-use Rattle.tta_arch.specs.declared.ends.GuardRef.{GuardRef}
-use Rattle.tta_arch.specs.declared.ends.Dest.{Dest}
-use Rattle.tta_arch.specs.Machine.{Machine}
-use Rattle.tta_arch.specs.Rules.{are_different}
-use Rattle.tta_arch.specs.Legal.{Ends, Slots, ends_of, same_place, are_apart, can_move, keeps_taken, is_joined, has_reads, has_writes}
-use Rattle.tta_arch.specs.Effects.{first_some, or_else}
-use Rattle.tta_moves.specs.declared.items.ItemSource.{ItemSource}
-use Rattle.tta_moves.specs.declared.items.LongValue.{LongValue}
-use Rattle.tta_moves.specs.declared.items.Item.{Item}
+use Rattle.tta_reserve.specs.Cited.{GuardRef, Dest, Machine, are_different, Ends, Slots, ends_of, same_place, are_apart, can_move, keeps_taken, is_joined, has_reads, has_writes, first_some, or_else, ItemSource, LongValue, Item, Slot, Bus, Template, PlacedItem, carried, carries, clash, fits_cycle, slots_of, taken_of, taken_by, ends_on}
 use Rattle.tta_moves.specs.declared.items.Item.TheVariants as item
-use Rattle.tta_moves.specs.declared.items.Slot.{Slot}
-use Rattle.tta_moves.specs.declared.items.Slot.TheVariants.{Bus, Template}
-use Rattle.tta_moves.specs.declared.items.PlacedItem.{PlacedItem}
-use Rattle.tta_moves.specs.Slots.{carried, carries, clash, fits_cycle, slots_of, taken_of, taken_by, ends_on}
 use Rattle.tta_reserve.specs.Taken.{is_template, buses_of, meets, is_apart}
 use Rattle.tta_moves.proofs.Numbered.{map_alike, set_alike}
 use Rattle.tta_moves.proofs.OnSlots.{ends_at, taken_at}

@@ -4,8 +4,7 @@ use Rattle.std.specs.Prelude.{slice_get, count_by, not, ◌&&◌}
 use Rattle.std.specs.List.{list_all, list_any, range_with_len}
 use Rattle.std.proofs.lemmas.List.Sums.{sum_by-cons, count_by-le-length}
 use Rattle.std.proofs.lemmas.Bool.{and_parts, and_from, or_parts, or_from, not-true, cases_lt}
-use Rattle.tta_arch.specs.declared.ends.Dest.{Dest}
-use Rattle.tta_arch.specs.Legal.{Ends, Slots, ends_of, same_place, are_apart, all_slots, all_below}
+use Rattle.tta_reserve.specs.Cited.{Dest, Ends, Slots, ends_of, same_place, are_apart, all_slots, all_below}
 
 -- ---- tests
 

@@ -8,23 +8,12 @@ use Rattle.std.proofs.lemmas.Bool.{and_parts, and_from, and_right, cases_lt, eq-
 use Rattle.std.proofs.lemmas.Nat.{and_le_r}
 use Rattle.tta_list.proofs.Lists.{all_one}
 use Rattle.tta_arch.specs.declared.parts.Template.{Template as Field}
-use Rattle.tta_arch.specs.declared.ends.GuardRef.{GuardRef}
-use Rattle.tta_arch.specs.declared.ends.Source.{Source}
+use Rattle.tta_reserve.specs.Cited.{GuardRef, Source, Dest, Machine, IsMachine, IsBusSet, joins, has_bit, Ends, keeps_taken, first_some, ItemSource, LongValue, PlacedItem, carried, fills, fits_cycle, slots_of, taken_of, ends_on}
 use Rattle.tta_arch.specs.declared.ends.Source.TheVariants as source
-use Rattle.tta_arch.specs.declared.ends.Dest.{Dest}
 use Rattle.tta_arch.specs.declared.ends.Dest.TheVariants as dest
-use Rattle.tta_arch.specs.Machine.{Machine}
-use Rattle.tta_arch.specs.Rules.{IsMachine, IsBusSet}
-use Rattle.tta_arch.specs.Joins.{joins, has_bit}
-use Rattle.tta_arch.specs.Legal.{Ends, keeps_taken}
-use Rattle.tta_arch.specs.Effects.{first_some}
 use Rattle.tta_arch.proofs.Widths.{no_high, pow_le}
 use Rattle.tta_arch.proofs.SetLemmas.{has_bit-and, has_bit-empty, trailing-has}
-use Rattle.tta_moves.specs.declared.items.ItemSource.{ItemSource}
-use Rattle.tta_moves.specs.declared.items.LongValue.{LongValue}
 use Rattle.tta_moves.specs.declared.items.Item.TheVariants as item
-use Rattle.tta_moves.specs.declared.items.PlacedItem.{PlacedItem}
-use Rattle.tta_moves.specs.Slots.{carried, fills, fits_cycle, slots_of, taken_of, ends_on}
 use Rattle.tta_reserve.specs.declared.row.Row.{Row}
 use Rattle.tta_reserve.specs.Taken.{imm_reads, is_apart}
 use Rattle.tta_reserve.specs.Booked.{IsRow}

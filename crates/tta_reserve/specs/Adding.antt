@@ -1,16 +1,9 @@
 -- A row with one item more.
 use Rattle.std.specs.Prelude.{ℕ, ◌+◌, ◌^◌, true, ◌&&◌, nat_lt, if◌then◌else◌, List, slice_index, set, bit_or}
-use Rattle.tta_arch.specs.declared.ends.Source.{Source}
+use Rattle.tta_reserve.specs.Cited.{Source, Dest, ItemSource, Port, Address, Item, Move, Long, Slot, Bus, Template}
 use Rattle.tta_arch.specs.declared.ends.Source.TheVariants as source
-use Rattle.tta_arch.specs.declared.ends.Dest.{Dest}
 use Rattle.tta_arch.specs.declared.ends.Dest.TheVariants as dest
 use Rattle.tta_arch.specs.declared.parts.Template.{Template as Field}
-use Rattle.tta_moves.specs.declared.items.ItemSource.{ItemSource}
-use Rattle.tta_moves.specs.declared.items.ItemSource.TheVariants.{Port, Address}
-use Rattle.tta_moves.specs.declared.items.Item.{Item}
-use Rattle.tta_moves.specs.declared.items.Item.TheVariants.{Move, Long}
-use Rattle.tta_moves.specs.declared.items.Slot.{Slot}
-use Rattle.tta_moves.specs.declared.items.Slot.TheVariants.{Bus, Template}
 use Rattle.tta_reserve.specs.declared.row.Row.{Row}
 use Rattle.tta_reserve.specs.Taken.{buses_of}
 

@@ -1,15 +1,7 @@
 -- What a row keeps of the items of a cycle, and for which placed items a table stands.
 use Rattle.std.specs.Prelude.{◌≡◌, ℕ, ◌<◌, ◌==◌, true, false, not, nat_lt, List, length, Option, Some, None, is_some, slice_get, slice_index, replicate}
 use Rattle.std.specs.List.{list_all, list_any}
-use Rattle.tta_arch.specs.Machine.{Machine}
-use Rattle.tta_arch.specs.Joins.{has_bit}
-use Rattle.tta_arch.specs.Effects.{first_some}
-use Rattle.tta_moves.specs.declared.items.Item.{Item}
-use Rattle.tta_moves.specs.declared.items.Slot.{Slot}
-use Rattle.tta_moves.specs.declared.items.PlacedItem.{PlacedItem}
-use Rattle.tta_moves.specs.Slots.{fits_cycle, taken_of, ends_on}
-use Rattle.tta_moves.specs.Bounds.{in_cycle}
-use Rattle.tta_moves.specs.FirstFit.{fits_beside, number_of}
+use Rattle.tta_reserve.specs.Cited.{Machine, has_bit, first_some, Item, Slot, PlacedItem, fits_cycle, taken_of, ends_on, in_cycle, fits_beside, number_of}
 use Rattle.tta_reserve.specs.declared.row.Row.{Row}
 use Rattle.tta_reserve.specs.Taken.{file_reads, imm_reads, file_writes, is_template}
 

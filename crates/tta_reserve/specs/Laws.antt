@@ -1,11 +1,7 @@
 -- What keeps the items of a cycle in places of their own.
 use Rattle.std.specs.Prelude.{◌≡◌, ℕ, ◌≤◌, true, not, List}
 use Rattle.std.specs.List.{list_all}
-use Rattle.tta_arch.specs.Machine.{Machine}
-use Rattle.tta_moves.specs.declared.items.Item.{Item}
-use Rattle.tta_moves.specs.declared.items.PlacedItem.{PlacedItem}
-use Rattle.tta_moves.specs.Touches.{is_control}
-use Rattle.tta_moves.specs.Bounds.{in_cycle, least}
+use Rattle.tta_reserve.specs.Cited.{Machine, Item, PlacedItem, is_control, in_cycle, least}
 use Rattle.tta_reserve.specs.Taken.{is_apart}
 
 -- While no control item is placed, an item goes into another place than each item of a cycle in which its bound lets it stand.

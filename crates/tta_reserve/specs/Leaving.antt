@@ -2,14 +2,9 @@
 use Rattle.std.specs.Prelude.{ℕ, ◌==◌, Bool, true, false, not, ◌&&◌, nat_lt, List, Option, slice_get, slice_index, bit_and}
 use Rattle.std.specs.Option.{option_map_or}
 use Rattle.tta_arch.specs.declared.parts.Template.{Template as Field}
-use Rattle.tta_arch.specs.declared.ends.GuardRef.{GuardRef}
-use Rattle.tta_arch.specs.declared.ends.Source.{Source}
+use Rattle.tta_reserve.specs.Cited.{GuardRef, Source, Dest, Machine, has_bit, joins, fills}
 use Rattle.tta_arch.specs.declared.ends.Source.TheVariants as source
-use Rattle.tta_arch.specs.declared.ends.Dest.{Dest}
 use Rattle.tta_arch.specs.declared.ends.Dest.TheVariants as dest
-use Rattle.tta_arch.specs.Machine.{Machine}
-use Rattle.tta_arch.specs.Joins.{has_bit, joins}
-use Rattle.tta_moves.specs.Slots.{fills}
 use Rattle.tta_reserve.specs.declared.row.Row.{Row}
 
 -- ---- a move

@@ -1,3 +1,4 @@
+pub mod Cited
 pub mod Taken
 pub mod Booked
 pub mod Adding

@@ -3,14 +3,7 @@ use Rattle.std.specs.Prelude.{ℕ, Bool, true, false, not, List, slice_get, coun
 use Rattle.std.specs.Option.{option_map_or}
 use Rattle.std.specs.List.{list_all}
 use Rattle.tta_arch.specs.declared.parts.Template.{Template as Field}
-use Rattle.tta_arch.specs.Machine.{Machine}
-use Rattle.tta_arch.specs.Legal.{ends_of, same_place, reads_file, reads_imm, writes_file}
-use Rattle.tta_moves.specs.declared.items.Item.{Item}
-use Rattle.tta_moves.specs.declared.items.Item.TheVariants.{Move, Long}
-use Rattle.tta_moves.specs.declared.items.Slot.{Slot}
-use Rattle.tta_moves.specs.declared.items.Slot.TheVariants.{Bus, Template}
-use Rattle.tta_moves.specs.declared.items.PlacedItem.{PlacedItem}
-use Rattle.tta_moves.specs.Slots.{slots_of}
+use Rattle.tta_reserve.specs.Cited.{Machine, ends_of, same_place, reads_file, reads_imm, writes_file, Item, Move, Long, Slot, Bus, Template, PlacedItem, slots_of}
 
 -- how many of the moves read a file
 abbrev pub file_reads : Machine → List PlacedItem → (file : ℕ) → ℕ

@@ -3,16 +3,7 @@ use Rattle.std.proofs.Common.{◌≡◌, ◌++◌, ◌∷◌, ℕ, List, [], Boo
 use Rattle.std.specs.Prelude.{filter, if◌then◌else◌}
 use Rattle.std.specs.List.{flat_map}
 use Rattle.std.proofs.lemmas.List.Concat.{flat_map-cons}
-use Rattle.tta_arch.specs.declared.ends.Dest.{Dest}
-use Rattle.tta_arch.specs.Fields.{numbers}
-use Rattle.tta_arch.specs.Joins.{is_dest_on}
-use Rattle.tta_arch.specs.Machine.{Machine}
-use Rattle.tta_circuit.specs.Circuit.{Signal}
-use Rattle.tta_hardware.specs.Signals.{Expression, Word}
-use Rattle.tta_hardware.specs.Wires.{hits, arrivals}
-use Rattle.tta_hardware.specs.Chains.{first_of}
-use Rattle.tta_verilog.specs.Expressions.{choice}
-use Rattle.tta_names.specs.Names.{text_of}
+use Rattle.tta_rtl.specs.Cited.{Dest, numbers, is_dest_on, Machine, Signal, Expression, Word, hits, arrivals, first_of, choice, text_of}
 use Rattle.tta_rtl.specs.Texts.{arrival, choice_start, choices}
 
 choice_joined : (test on off : List ℕ) → choice test on off ≡ choice_start test on ++ off

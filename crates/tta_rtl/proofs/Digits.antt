@@ -4,11 +4,9 @@ use Rattle.std.specs.Prelude.{◌==◌, slice_get}
 use Rattle.std.specs.List.{flat_map, enumerate_from, range_with_len}
 use Rattle.std.specs.Option.{option_map_or}
 use Rattle.std.proofs.lemmas.List.{length-drop, length-take-le, drop_more}
-use Rattle.tta_image.specs.Bits.{bits_of}
-use Rattle.tta_image.specs.Decoding.{bits_in, field, number_of}
+use Rattle.tta_rtl.specs.Cited.{bits_of, bits_in, field, number_of, bits_text}
 use Rattle.tta_image.proofs.Numbers.{bits_of-number_of}
 use Rattle.tta_image.proofs.Unique.{length-bytes}
-use Rattle.tta_verilog.specs.Circuits.{bits_text, case_line}
 use Rattle.tta_rtl.specs.Memories.{bit_in, digit, digits}
 
 -- one digit, and then the rest

@@ -3,12 +3,7 @@ use Rattle.std.proofs.Common.{◌≡◌, ◌≤◌, ◌<◌, ◌^◌, ◌*◌, L
 use Rattle.std.specs.List.{range_with_len, sum_by}
 use Rattle.std.proofs.lemmas.List.Sums.{sum_by-cons}
 use Rattle.std.proofs.lemmas.List.FromFn.{length-map-range_with_len}
-use Rattle.tta_arch.specs.declared.layout.Layout.{Layout}
-use Rattle.tta_arch.specs.declared.layout.BusFields.{BusFields}
-use Rattle.tta_arch.specs.Machine.{Machine}
-use Rattle.tta_arch.specs.Rules.{IsMachine}
-use Rattle.tta_arch.specs.Layout.{fields_of, layout_of}
-use Rattle.tta_image.specs.Narrow.{AreNarrow}
+use Rattle.tta_rtl.specs.Cited.{Layout, BusFields, Machine, IsMachine, fields_of, layout_of, AreNarrow}
 use Rattle.tta_image.proofs.NarrowFields.{narrow_layout}
 
 -- a layout has the fields of as many buses as its machine

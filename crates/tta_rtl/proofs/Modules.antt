@@ -7,28 +7,14 @@ use Rattle.std.proofs.lemmas.Bool.{ne_eqb}
 use Rattle.std.proofs.lemmas.Nat.{from_be_bytes-to_be_bytes_4}
 use Rattle.std.proofs.Math.Nat.{mul-le-mul}
 use Rattle.tta_list.proofs.Sets.{over-length}
-use Rattle.tta_arch.specs.Machine.{Machine}
-use Rattle.tta_arch.specs.Fields.{numbers, word_width}
-use Rattle.tta_arch.specs.Rules.{IsMachine, same_op}
-use Rattle.tta_arch.specs.declared.parts.Op.{Op}
-use Rattle.tta_arch.specs.declared.parts.Op.TheVariants.{Stw, Stf}
-use Rattle.tta_code.specs.declared.whole.Datum.{Datum}
-use Rattle.tta_code.specs.Whole.{Whole, data_in}
-use Rattle.tta_image.specs.Bits.{instruction_bits}
-use Rattle.tta_image.specs.Decoding.{bits_in, field}
-use Rattle.tta_image.specs.Image.{Image, header, version_of, data_section}
-use Rattle.tta_image.specs.Reading.{word_count, section_length, body_in}
+use Rattle.tta_rtl.specs.Cited.{Machine, numbers, word_width, IsMachine, same_op, Op, Stw, Stf, Datum, data_in, instruction_bits, Image, header, version_of, data_section, word_count, section_length, body_in, Fetched, Port, Controls, GoalNow, EndsNow, Lands, Asks, Gives, Goes, NextPc, Puts, PutWord, all_ops, all_fields, bus_wires, unit_wires, unit_registers, wire_names, register_names, code_words, circuit_with, store_port, first_line, store_text, names_of}
+use Rattle.tta_code.specs.Whole.{Whole}
 use Rattle.tta_image.proofs.ImageDecoded.{length-words_bits}
 use Rattle.tta_image.proofs.ImageLemmas.{words_fit, short_address, pow_most}
 use Rattle.tta_image.proofs.PairsDecoded.{data_stands, few_data, length-pairs}
 use Rattle.tta_image.proofs.Unique.{length-bytes}
-use Rattle.tta_hardware.specs.Signals.{Signal as Named, Fetched, Port, Underway, Keeps, Controls, GoalNow, EndsNow, Lands, Asks, Gives, Goes, NextPc, Puts, PutWord}
-use Rattle.tta_hardware.specs.Wires.{all_ops}
-use Rattle.tta_hardware.specs.Hardware.{all_fields, bus_wires, unit_wires, unit_registers, wire_names, register_names, code_words, circuit_with, store_port}
-use Rattle.tta_hardware.specs.Words.{image_words}
+use Rattle.tta_hardware.specs.Signals.{Signal as Named}
 use Rattle.tta_hardware.proofs.Imaged.{image_kept}
-use Rattle.tta_verilog.specs.Circuits.{first_line, store_text}
-use Rattle.tta_names.specs.Names.{names_of}
 use Rattle.tta_rtl.specs.Kept.{registers_of_file, registers_of_imm, underways, fixed}
 use Rattle.tta_rtl.specs.Memories.{bytes_before, words_in, stored}
 use Rattle.tta_rtl.specs.Module.{first_words, store_line, stores_text}

@@ -6,18 +6,8 @@ use Rattle.std.proofs.lemmas.List.{map-append}
 use Rattle.std.proofs.lemmas.List.Folds.{flat_map-map}
 use Rattle.std.proofs.lemmas.Grind.{flat_map-append}
 use Rattle.tta_arch.specs.declared.ends.Dest.TheVariants as dest
-use Rattle.tta_arch.specs.declared.parts.Template.{Template}
-use Rattle.tta_arch.specs.Effects.{KeptReg, KeptImm, width_of}
-use Rattle.tta_arch.specs.Fields.{numbers, template_width}
-use Rattle.tta_arch.specs.Joins.{is_dest_on}
-use Rattle.tta_arch.specs.Machine.{Machine}
-use Rattle.tta_circuit.specs.Circuit.{Signal, Const, Equal}
-use Rattle.tta_hardware.specs.Signals.{Signal as Named, Word, Keeps, Underway, Fetched, TemplateOf, LongOf, Expression}
-use Rattle.tta_hardware.specs.Wires.{hits, buses_to}
-use Rattle.tta_hardware.specs.Registers.{register, register_width, restarts, becomes, kept_next, narrowed, longs}
-use Rattle.tta_verilog.specs.Expressions.{between}
-use Rattle.tta_verilog.specs.Circuits.{register_text}
-use Rattle.tta_names.specs.Names.{names_of, signal_name, text_of}
+use Rattle.tta_rtl.specs.Cited.{Template, KeptReg, KeptImm, width_of, numbers, template_width, is_dest_on, Machine, Signal, Const, Equal, Word, Keeps, Underway, Fetched, TemplateOf, LongOf, Expression, hits, buses_to, register, register_width, restarts, becomes, kept_next, narrowed, longs, between, register_text, names_of, signal_name, text_of}
+use Rattle.tta_hardware.specs.Signals.{Signal as Named}
 use Rattle.tta_rtl.specs.Texts.{choice_start, register_start, register_rest, register_line, registers_text}
 use Rattle.tta_rtl.specs.Kept.{brought, file_line, imm_line, line_of, long_choice, registers_of_file, registers_of_imm, template_choice, underway_line, underway_name, underways}
 use Rattle.tta_rtl.proofs.Choices.{choices_passed, text_first}

@@ -4,18 +4,8 @@ use Rattle.std.specs.Prelude.{◌^◌, ◌==◌, min, ◌&&◌, nat_lt, if◌the
 use Rattle.std.specs.List.{range_with_len, sum_by}
 use Rattle.std.proofs.lemmas.List.Sums.{sum_by-cons}
 use Rattle.tta_list.proofs.Lists.{sum_by-map}
-use Rattle.tta_arch.specs.declared.layout.Layout.{Layout}
-use Rattle.tta_arch.specs.declared.layout.BusFields.{BusFields}
-use Rattle.tta_arch.specs.Machine.{Machine}
-use Rattle.tta_arch.specs.Joins.{has_bit}
-use Rattle.tta_arch.specs.Fields.{bus_width, short_width}
-use Rattle.tta_arch.specs.Layout.{fields_of, layout_of}
-use Rattle.tta_image.specs.Decoding.{is_signed}
-use Rattle.tta_circuit.specs.Circuit.{Signal, Slice, Const, Join, Select}
-use Rattle.tta_hardware.specs.Signals.{Whole, Expression}
-use Rattle.tta_hardware.specs.Parts.{buses_width, long_width, below_bus, below_payload, above, shares_from, with_high, short_part}
-use Rattle.tta_verilog.specs.Expressions.{choice}
-use Rattle.tta_names.specs.Names.{text_of}
+use Rattle.tta_rtl.specs.Cited.{Layout, BusFields, Machine, has_bit, bus_width, short_width, fields_of, layout_of, is_signed, Signal, Slice, Const, Join, Select, Expression, buses_width, long_width, below_bus, below_payload, above, shares_from, with_high, short_part, choice, text_of}
+use Rattle.tta_hardware.specs.Signals.{Whole}
 use Rattle.tta_rtl.specs.Parts.{part_text, share_width, above_text, shares_text, high_text, short_text}
 
 -- ---- widths

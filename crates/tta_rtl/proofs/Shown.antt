@@ -2,15 +2,7 @@
 use Rattle.std.proofs.Common.{◌≡◌, ◌+◌, ◌++◌, ℕ, List, map, ap, ◌∙◌}
 use Rattle.std.specs.Prelude.{filter, ◌==◌, ◌&&◌}
 use Rattle.std.specs.List.{flat_map, enumerate_from}
-use Rattle.tta_arch.specs.declared.parts.UnitOp.{UnitOp}
-use Rattle.tta_arch.specs.Machine.{Machine}
-use Rattle.tta_arch.specs.Effects.{has_result}
-use Rattle.tta_circuit.specs.Circuit.{Signal}
-use Rattle.tta_hardware.specs.Signals.{HasBegun, Starts, Expression}
-use Rattle.tta_hardware.specs.Chains.{any_of}
-use Rattle.tta_hardware.specs.Wires.{ops_of, is_load, loads, read_word, fresh, result_of, timed, made, begins, nothing}
-use Rattle.tta_verilog.specs.Expressions.{constant}
-use Rattle.tta_names.specs.Names.{text_of}
+use Rattle.tta_rtl.specs.Cited.{UnitOp, Machine, has_result, Signal, HasBegun, Starts, Expression, any_of, ops_of, is_load, loads, read_word, fresh, result_of, timed, made, begins, nothing, constant, text_of}
 use Rattle.tta_rtl.specs.Texts.{fresh_choice, fresh_choices, made_choice}
 use Rattle.tta_rtl.proofs.Choices.{text_first, choices_passed}
 

@@ -4,12 +4,8 @@ use Rattle.std.specs.List.{flat_map, range_with_len}
 use Rattle.std.proofs.lemmas.List.{append-nil, map-append, flat_map_more}
 use Rattle.std.proofs.lemmas.Grind.{flat_map-append}
 use Rattle.tta_list.proofs.Lists.{range_more}
-use Rattle.tta_arch.specs.Machine.{Machine}
-use Rattle.tta_arch.specs.Fields.{numbers, template_width}
-use Rattle.tta_hardware.specs.Signals.{Field, Fetched, TemplateOf, LongOf, Signal as Named}
-use Rattle.tta_hardware.specs.Hardware.{all_fields, bus_fields, with_bits, wire}
-use Rattle.tta_verilog.specs.Circuits.{wire_text}
-use Rattle.tta_names.specs.Names.{names_of}
+use Rattle.tta_rtl.specs.Cited.{Machine, numbers, template_width, Field, Fetched, TemplateOf, LongOf, all_fields, bus_fields, with_bits, wire, wire_text, names_of}
+use Rattle.tta_hardware.specs.Signals.{Signal as Named}
 use Rattle.tta_rtl.specs.Texts.{wires_text}
 use Rattle.tta_rtl.specs.Parts.{fields_text}
 

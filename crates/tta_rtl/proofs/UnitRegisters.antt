@@ -5,15 +5,8 @@ use Rattle.std.proofs.lemmas.List.{append-nil}
 use Rattle.std.proofs.lemmas.List.Concat.{flat_map-cons}
 use Rattle.std.proofs.lemmas.Grind.{flat_map-append}
 use Rattle.tta_arch.specs.declared.parts.Unit.{Unit as OpUnit}
-use Rattle.tta_arch.specs.declared.parts.UnitOp.{UnitOp}
-use Rattle.tta_arch.specs.Machine.{Machine}
-use Rattle.tta_arch.specs.Effects.{KeptOperand, KeptPort}
-use Rattle.tta_hardware.specs.Signals.{Signal as Named, Keeps, IsDue, Due, HasBegun, Raw, IsInside}
-use Rattle.tta_hardware.specs.Wires.{is_load, longest}
-use Rattle.tta_hardware.specs.Hardware.{load_registers, result_registers, unit_registers}
-use Rattle.tta_hardware.specs.Registers.{register}
-use Rattle.tta_verilog.specs.Circuits.{register_text}
-use Rattle.tta_names.specs.Names.{names_of}
+use Rattle.tta_rtl.specs.Cited.{UnitOp, Machine, KeptOperand, KeptPort, Keeps, IsDue, Due, is_load, longest, load_registers, result_registers, unit_registers, register, register_text, names_of}
+use Rattle.tta_hardware.specs.Signals.{Signal as Named}
 use Rattle.tta_rtl.specs.Texts.{due_text, due_word_text, load_text, register_of, registers_text, unit_registers_text}
 use Rattle.tta_rtl.proofs.RegisterTexts.{line_of_register}
 

@@ -5,18 +5,10 @@ use Rattle.std.proofs.lemmas.List.{map-append, append-nil}
 use Rattle.std.proofs.lemmas.List.Concat.{flat_map-cons}
 use Rattle.std.proofs.lemmas.Grind.{flat_map-append}
 use Rattle.tta_arch.specs.declared.parts.Unit.{Unit as OpUnit}
-use Rattle.tta_arch.specs.declared.parts.UnitOp.{UnitOp}
+use Rattle.tta_rtl.specs.Cited.{UnitOp, Machine, KeptOperand, numbers, Signal, Goal, GoalNow, Port, Starts, Trigger, Operand, arrivals, trigger_word, operand_now, ops_of, nothing, wire, unit_wires, constant, wire_text, names_of, place_name, text_of}
 use Rattle.tta_arch.specs.declared.ends.Dest.TheVariants as dest
-use Rattle.tta_arch.specs.Machine.{Machine}
-use Rattle.tta_arch.specs.Effects.{KeptOperand}
-use Rattle.tta_arch.specs.Fields.{numbers}
-use Rattle.tta_circuit.specs.Circuit.{Signal}
-use Rattle.tta_hardware.specs.Signals.{Signal as Named, Goal, GoalNow, Port, Starts, Trigger, Operand}
-use Rattle.tta_hardware.specs.Wires.{arrivals, trigger_word, operand_now, made_of, ops_of, nothing}
-use Rattle.tta_hardware.specs.Hardware.{wire, unit_wires}
-use Rattle.tta_verilog.specs.Expressions.{constant}
-use Rattle.tta_verilog.specs.Circuits.{wire_text}
-use Rattle.tta_names.specs.Names.{names_of, place_name, text_of}
+use Rattle.tta_hardware.specs.Signals.{Signal as Named}
+use Rattle.tta_hardware.specs.Wires.{made_of}
 use Rattle.tta_rtl.specs.Texts.{choices, port_text, start_text, triggers, unit_text, wire_of, wires_text}
 use Rattle.tta_rtl.proofs.Choices.{text_first, choices-append}
 

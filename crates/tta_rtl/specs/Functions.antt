@@ -2,14 +2,8 @@
 use Rattle.std.specs.Prelude.{ℕ, ◌==◌, Bool, false, if◌then◌else◌, List, [], ◌∷◌, ◌++◌, Option, None, Some, codes, decimal, length, slice_index_or}
 use Rattle.std.specs.List.{flat_map, list_any}
 use Rattle.std.specs.Str.{bytes_eq}
-use Rattle.tta_ops.specs.Units.{Units}
-use Rattle.tta_arch.specs.Effects.{or_else}
-use Rattle.tta_arch.specs.Fields.{numbers}
-use Rattle.tta_arch.specs.declared.parts.Op.{Op}
-use Rattle.tta_arch.specs.declared.parts.Op.TheVariants.{Set}
+use Rattle.tta_rtl.specs.Cited.{Units, or_else, numbers, Op, Set, UnitOp, Machine}
 use Rattle.tta_arch.specs.declared.parts.Unit.{Unit as OpUnit}
-use Rattle.tta_arch.specs.declared.parts.UnitOp.{UnitOp}
-use Rattle.tta_arch.specs.Machine.{Machine}
 
 -- An operation by its name, and what is made of the words a and b: 64 bits, of which the low 32 are its word.
 pub record Made : Type 0 where

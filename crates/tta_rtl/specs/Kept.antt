@@ -1,17 +1,8 @@
 -- The text of what registers take, piece by piece.
 use Rattle.std.specs.Prelude.{ℕ, ◌+◌, ◌-◌, ◌==◌, ◌&&◌, Bool, true, if◌then◌else◌, List, [], ◌∷◌, ◌++◌, map, codes, decimal}
 use Rattle.std.specs.List.{range_with_len}
-use Rattle.tta_arch.specs.declared.ends.Dest.{Dest}
-use Rattle.tta_arch.specs.declared.parts.Template.{Template}
-use Rattle.tta_arch.specs.Machine.{Machine}
-use Rattle.tta_arch.specs.Joins.{is_dest_on}
-use Rattle.tta_arch.specs.Fields.{numbers, template_width}
-use Rattle.tta_arch.specs.Effects.{KeptReg, KeptImm, KeptRa}
-use Rattle.tta_circuit.specs.Circuit.{Signal, Slice, Const, Equal, Join, Plus}
-use Rattle.tta_hardware.specs.Signals.{Signal as Named, Pc, Whole, HasHalted, Underway, Goal, Ends, Word, Fetched, TemplateOf, LongOf, Keeps, Expression}
-use Rattle.tta_hardware.specs.Wires.{hits}
-use Rattle.tta_hardware.specs.Registers.{register_width, restarts, becomes}
-use Rattle.tta_names.specs.Names.{signal_name, text_of}
+use Rattle.tta_rtl.specs.Cited.{Dest, Template, Machine, is_dest_on, numbers, template_width, KeptReg, KeptImm, KeptRa, Signal, Slice, Const, Equal, Join, Plus, Pc, HasHalted, Underway, Goal, Ends, Word, Fetched, TemplateOf, LongOf, Keeps, Expression, hits, register_width, restarts, becomes, signal_name, text_of}
+use Rattle.tta_hardware.specs.Signals.{Signal as Named, Whole}
 use Rattle.tta_rtl.specs.Texts.{choice_start, register_line}
 
 -- a word, or its lowest bit

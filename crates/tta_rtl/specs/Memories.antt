@@ -2,14 +2,8 @@
 use Rattle.std.specs.Prelude.{ℕ, zero, suc, ◌+◌, ◌-◌, ◌*◌, ◌/◌, ◌%◌, ◌^◌, ◌==◌, Bool, false, if◌then◌else◌, List, [], ◌++◌, map, codes, length, slice_get}
 use Rattle.std.specs.List.{flat_map, enumerate_from}
 use Rattle.std.specs.Option.{option_map_or}
-use Rattle.tta_arch.specs.Machine.{Machine}
-use Rattle.tta_arch.specs.Fields.{numbers, word_width}
-use Rattle.tta_image.specs.Decoding.{bits_in, field}
-use Rattle.tta_circuit.specs.Circuit.{Signal, Const, Both, Below, WritePort}
-use Rattle.tta_hardware.specs.Signals.{Signal as Named, Store, Starts, Goes, Expression}
-use Rattle.tta_hardware.specs.Chains.{any_of, first_of}
-use Rattle.tta_hardware.specs.Wires.{nothing}
-use Rattle.tta_verilog.specs.Circuits.{first_line, array_start}
+use Rattle.tta_rtl.specs.Cited.{Machine, numbers, word_width, bits_in, field, Signal, Const, Both, Below, WritePort, Store, Starts, Goes, Expression, any_of, first_of, nothing, first_line, array_start}
+use Rattle.tta_hardware.specs.Signals.{Signal as Named}
 use Rattle.tta_rtl.specs.declared.starts.UnitWord.{UnitWord}
 use Rattle.tta_rtl.specs.declared.starts.UnitWord.TheVariants as word
 use Rattle.tta_rtl.specs.Texts.{unit_word}

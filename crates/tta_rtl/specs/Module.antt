@@ -1,19 +1,9 @@
 -- The text of a machine with its code and data as a module.
 use Rattle.std.specs.Prelude.{ℕ, Bool, nat_lt, if◌then◌else◌, List, [], ◌++◌, codes, length, replicate}
 use Rattle.std.specs.List.{flat_map}
-use Rattle.tta_list.specs.Laid.{over}
-use Rattle.tta_ops.specs.Units.{Units}
-use Rattle.tta_arch.specs.declared.parts.Op.{Op}
-use Rattle.tta_arch.specs.declared.parts.Op.TheVariants.{Out, Take, Stw, Stf}
-use Rattle.tta_arch.specs.Machine.{Machine}
-use Rattle.tta_arch.specs.Rules.{same_op}
-use Rattle.tta_code.specs.Whole.{Whole, data_in}
-use Rattle.tta_circuit.specs.Circuit.{Circuit, WritePort}
-use Rattle.tta_hardware.specs.Signals.{Signal as Named, Store}
-use Rattle.tta_hardware.specs.Wires.{all_ops}
-use Rattle.tta_hardware.specs.Hardware.{circuit_of, store_port}
-use Rattle.tta_verilog.specs.Circuits.{range, memory_text, parts_text, write_line}
-use Rattle.tta_names.specs.Names.{names_of, text_of}
+use Rattle.tta_rtl.specs.Cited.{over, Units, Op, Out, Take, Stw, Stf, Machine, same_op, data_in, Circuit, WritePort, Store, all_ops, circuit_of, store_port, range, memory_text, parts_text, write_line, names_of, text_of}
+use Rattle.tta_code.specs.Whole.{Whole}
+use Rattle.tta_hardware.specs.Signals.{Signal as Named}
 use Rattle.tta_rtl.specs.Functions.{functions_text}
 
 -- ---- the ports

@@ -1,11 +1,7 @@
 -- The text of parts of the instruction's word, and of wires that are made of them.
 use Rattle.std.specs.Prelude.{ℕ, ◌-◌, ◌+◌, ◌^◌, ◌==◌, min, Bool, ◌&&◌, nat_lt, if◌then◌else◌, List, [], ◌∷◌, ◌++◌, codes, map}
 use Rattle.std.specs.List.{sum_by}
-use Rattle.tta_arch.specs.declared.layout.BusFields.{BusFields}
-use Rattle.tta_arch.specs.Machine.{Machine}
-use Rattle.tta_arch.specs.Joins.{has_bit}
-use Rattle.tta_hardware.specs.Signals.{Field, Fetched}
-use Rattle.tta_verilog.specs.Expressions.{constant, part, joined, choice}
+use Rattle.tta_rtl.specs.Cited.{BusFields, Machine, has_bit, Field, Fetched, constant, part, joined, choice}
 use Rattle.tta_rtl.specs.Texts.{wires_text}
 
 -- so many bits of the instruction's word, from one on

@@ -1,21 +1,10 @@
 -- The text of lists: of choices, of wires and of registers.
 use Rattle.std.specs.Prelude.{ℕ, ◌+◌, ◌==◌, ◌&&◌, Bool, true, false, if◌then◌else◌, List, [], ◌∷◌, ◌++◌, map, filter, codes}
 use Rattle.std.specs.List.{flat_map, enumerate_from}
-use Rattle.tta_arch.specs.declared.parts.Op.{Op}
+use Rattle.tta_rtl.specs.Cited.{Op, UnitOp, Dest, Machine, is_dest_on, KeptOperand, KeptPort, has_result, Signal, Keeps, HasBegun, Raw, IsInside, IsDue, Due, Word, Starts, Operand, Trigger, Port, Expression, hits, arrivals, is_load, loads, read_word, result_of, wire, unit_wires, unit_registers, register, register_width, restarts, becomes, range, wire_text, register_text, names_of, text_of}
 use Rattle.tta_arch.specs.declared.parts.Unit.{Unit as OpUnit}
-use Rattle.tta_arch.specs.declared.parts.UnitOp.{UnitOp}
-use Rattle.tta_arch.specs.declared.ends.Dest.{Dest}
 use Rattle.tta_arch.specs.declared.ends.Dest.TheVariants as dest
-use Rattle.tta_arch.specs.Machine.{Machine}
-use Rattle.tta_arch.specs.Joins.{is_dest_on}
-use Rattle.tta_arch.specs.Effects.{KeptOperand, KeptPort, has_result}
-use Rattle.tta_circuit.specs.Circuit.{Signal}
-use Rattle.tta_hardware.specs.Signals.{Signal as Named, Keeps, HasBegun, Raw, IsInside, IsDue, Due, Word, Starts, Operand, Trigger, Port, Expression}
-use Rattle.tta_hardware.specs.Wires.{hits, arrivals, is_load, loads, read_word, result_of}
-use Rattle.tta_hardware.specs.Hardware.{wire, unit_wires, unit_registers}
-use Rattle.tta_hardware.specs.Registers.{register, register_width, restarts, becomes}
-use Rattle.tta_verilog.specs.Circuits.{range, wire_text, register_text}
-use Rattle.tta_names.specs.Names.{names_of, text_of}
+use Rattle.tta_hardware.specs.Signals.{Signal as Named}
 use Rattle.tta_rtl.specs.declared.starts.OpAt.{OpAt}
 use Rattle.tta_rtl.specs.declared.starts.OpWord.{OpWord}
 use Rattle.tta_rtl.specs.declared.starts.OpWord.TheVariants as of

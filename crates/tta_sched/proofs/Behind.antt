@@ -5,19 +5,8 @@ use Rattle.std.specs.Option.{option_map_or}
 use Rattle.std.specs.List.{list_all}
 use Rattle.std.proofs.lemmas.Bool.{and_parts}
 use Rattle.std.proofs.lemmas.Bool.Decides.{nat_tests}
-use Rattle.tta_arch.specs.declared.ends.GuardRef.{GuardRef}
-use Rattle.tta_arch.specs.declared.parts.UnitOp.{UnitOp}
-use Rattle.tta_arch.specs.declared.parts.Op.{Op}
-use Rattle.tta_arch.specs.declared.parts.Op.TheVariants.{Ldw, Stw, Ldf, Stf, Out, Take, Set}
-use Rattle.tta_arch.specs.Machine.{Machine}
-use Rattle.tta_arch.specs.Rules.{IsMachine, fits_kind, is_from_to}
-use Rattle.tta_arch.specs.Effects.{Place, KeptPort, Target, Reg, Imm, Operand, Trigger, Control, Jumps, Calls, Halts, op_at, has_result}
+use Rattle.tta_sched.specs.Cited.{GuardRef, UnitOp, Op, Ldw, Stw, Ldf, Stf, Out, Take, Set, Machine, IsMachine, fits_kind, is_from_to, Place, KeptPort, Target, Reg, Imm, Operand, Trigger, Control, Jumps, Calls, Halts, op_at, has_result, Item, PlacedItem, guard_of, source_of, target_of_item, is_control, place_of_source, guard_place, Spot, At, Started, same_spot, Touch, due_after, operand_read, reads_by, written_at, writes_by, from_moment, behind, lasts, over_before, bound, least, end_of}
 use Rattle.tta_arch.proofs.Facts.{from_to-least, from_to-greatest}
-use Rattle.tta_moves.specs.declared.items.Item.{Item}
-use Rattle.tta_moves.specs.declared.items.PlacedItem.{PlacedItem}
-use Rattle.tta_moves.specs.Touches.{guard_of, source_of, target_of_item, is_control, place_of_source, guard_place}
-use Rattle.tta_moves.specs.Bounds.{Spot, At, Started, same_spot, Touch, due_after, operand_read, reads_by, written_at, writes_by, from_moment, behind, lasts, over_before, bound, least}
-use Rattle.tta_depend.specs.Stands.{end_of}
 use Rattle.tta_arch.proofs.Sizes.{unit_fits as unit_op}
 
 -- ---- touches

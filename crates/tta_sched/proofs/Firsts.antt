@@ -8,24 +8,10 @@ use Rattle.std.proofs.lemmas.Bool.{and_parts, cases_lt}
 use Rattle.std.proofs.lemmas.Bool.Decides.{nat_tests}
 use Rattle.std.proofs.lemmas.Option.{slice_get-map}
 use Rattle.tta_list.proofs.Lists.{list_all_one, take_one_more}
-use Rattle.tta_arch.specs.declared.parts.UnitOp.{UnitOp}
+use Rattle.tta_sched.specs.Cited.{UnitOp, Machine, IsMachine, joins, Target, Reg, Imm, Operand, Trigger, Control, op_at, has_result, or_else, Item, Slot, Bus, Template, PlacedItem, Placed, is_control, target_of_item, carried, carries, fills, has_slot, fits_cycle, control_is_last, is_list, lasts, in_cycle, last_end, control_cycle, length_of, due_after, fits_beside, FitsFirst, IsFirstFit, end_of}
 use Rattle.tta_arch.specs.declared.parts.Unit.{Unit as OpUnit}
 use Rattle.tta_arch.specs.declared.parts.Template.{Template as Field}
-use Rattle.tta_arch.specs.Machine.{Machine}
-use Rattle.tta_arch.specs.Rules.{IsMachine}
-use Rattle.tta_arch.specs.Joins.{joins}
-use Rattle.tta_arch.specs.Effects.{Target, Reg, Imm, Operand, Trigger, Control, op_at, has_result, or_else}
-use Rattle.tta_moves.specs.declared.items.Item.{Item}
 use Rattle.tta_moves.specs.declared.items.Item.TheVariants as item
-use Rattle.tta_moves.specs.declared.items.Slot.{Slot}
-use Rattle.tta_moves.specs.declared.items.Slot.TheVariants.{Bus, Template}
-use Rattle.tta_moves.specs.declared.items.PlacedItem.{PlacedItem}
-use Rattle.tta_moves.specs.declared.items.Placed.{Placed}
-use Rattle.tta_moves.specs.Touches.{is_control, target_of_item}
-use Rattle.tta_moves.specs.Slots.{carried, carries, fills, has_slot, fits_cycle, control_is_last, is_list}
-use Rattle.tta_moves.specs.Bounds.{lasts, in_cycle, last_end, control_cycle, length_of, due_after}
-use Rattle.tta_moves.specs.FirstFit.{fits_beside, FitsFirst, IsFirstFit}
-use Rattle.tta_depend.specs.Stands.{end_of}
 use Rattle.tta_depend.proofs.Asked.{end_push, last_end_is}
 use Rattle.tta_sched.specs.Serial.{IsSerial}
 use Rattle.tta_sched.specs.Room.{longest_of, longest_in, longest, HasRoom}

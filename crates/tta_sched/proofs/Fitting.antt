@@ -4,21 +4,8 @@ use Rattle.std.specs.Prelude.{max, not, slice_get, ◌||◌, ◌==◌, if◌then
 use Rattle.std.specs.Option.{option_map_or}
 use Rattle.std.proofs.lemmas.Bool.{and_parts, and_from, cases_lt}
 use Rattle.std.proofs.lemmas.Bool.Decides.{nat_tests}
-use Rattle.tta_arch.specs.Machine.{Machine}
-use Rattle.tta_arch.specs.Rules.{IsMachine}
-use Rattle.tta_arch.specs.Effects.{Target, Reg, Imm, Operand, Trigger, Control, or_else}
-use Rattle.tta_moves.specs.declared.items.Item.{Item}
-use Rattle.tta_moves.specs.declared.items.Slot.{Slot}
-use Rattle.tta_moves.specs.declared.items.PlacedItem.{PlacedItem}
-use Rattle.tta_moves.specs.Touches.{is_control, target_of_item}
-use Rattle.tta_moves.specs.Slots.{has_slot, control_is_last}
-use Rattle.tta_moves.specs.Bounds.{least, lasts, due_after, in_cycle, control_cycle}
-use Rattle.tta_moves.specs.FirstFit.{fits_beside}
-use Rattle.tta_depend.specs.Stands.{Kept, end_of, Stands}
+use Rattle.tta_sched.specs.Cited.{Machine, IsMachine, Target, Reg, Imm, Operand, Trigger, Control, or_else, Item, Slot, PlacedItem, is_control, target_of_item, has_slot, control_is_last, least, lasts, due_after, in_cycle, control_cycle, fits_beside, Kept, end_of, Stands, Row, is_apart, StandsFor, IsLeastSlot}
 use Rattle.tta_depend.proofs.Asked.{end_push}
-use Rattle.tta_reserve.specs.declared.row.Row.{Row}
-use Rattle.tta_reserve.specs.Taken.{is_apart}
-use Rattle.tta_reserve.specs.Booked.{StandsFor, IsLeastSlot}
 use Rattle.tta_reserve.proofs.Apart.{bounds_keep_apart}
 use Rattle.tta_sched.specs.First.{no_control, Keeps, Asks, StandsFirst, FindsFirst, AddsFirst}
 use Rattle.tta_sched.proofs.Behind.{least_over, lasts_some, due_least}

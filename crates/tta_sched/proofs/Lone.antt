@@ -7,19 +7,9 @@ use Rattle.std.proofs.lemmas.Bool.{and_parts, and_from, le-leb}
 use Rattle.std.proofs.lemmas.Bool.Decides.{nat_tests}
 use Rattle.std.proofs.lemmas.List.Sums.{count_by-le-length}
 use Rattle.tta_list.proofs.Lists.{list_all_one, some_within}
-use Rattle.tta_arch.specs.declared.parts.File.{File}
-use Rattle.tta_arch.specs.Machine.{Machine}
-use Rattle.tta_arch.specs.Rules.{IsMachine, is_file, is_from_to, is_socket}
-use Rattle.tta_arch.specs.Joins.{joins, has_bit}
-use Rattle.tta_arch.specs.Legal.{Ends, Slots, ends_of, are_apart, can_move, keeps_taken, is_joined, has_reads, has_writes, all_slots, all_below, reads_file, reads_imm, writes_file}
-use Rattle.tta_arch.specs.Effects.{first_some, or_else}
+use Rattle.tta_sched.specs.Cited.{File, Machine, IsMachine, is_file, is_from_to, is_socket, joins, has_bit, Ends, Slots, ends_of, are_apart, can_move, keeps_taken, is_joined, has_reads, has_writes, all_slots, all_below, reads_file, reads_imm, writes_file, first_some, or_else, Item, Slot, Bus, Template, PlacedItem, carried, carries, fits_cycle, slots_of, taken_of, ends_on}
 use Rattle.tta_arch.proofs.Facts.{from_to-least}
-use Rattle.tta_moves.specs.declared.items.Item.{Item}
 use Rattle.tta_moves.specs.declared.items.Item.TheVariants as item
-use Rattle.tta_moves.specs.declared.items.Slot.{Slot}
-use Rattle.tta_moves.specs.declared.items.Slot.TheVariants.{Bus, Template}
-use Rattle.tta_moves.specs.declared.items.PlacedItem.{PlacedItem}
-use Rattle.tta_moves.specs.Slots.{carried, carries, fits_cycle, slots_of, taken_of, ends_on}
 use Rattle.tta_arch.proofs.SetLemmas.{has_bit-empty as no_bits}
 use Rattle.tta_reserve.proofs.Kept.{no_ends}
 

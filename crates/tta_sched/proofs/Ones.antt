@@ -7,16 +7,7 @@ use Rattle.std.proofs.lemmas.Bool.{and_parts}
 use Rattle.std.proofs.lemmas.Bool.Decides.{nat_tests}
 use Rattle.std.proofs.lemmas.Option.{slice_get_within}
 use Rattle.tta_list.proofs.Lists.{slice_get-push, slice_get-back}
-use Rattle.tta_arch.specs.Machine.{Machine}
-use Rattle.tta_arch.specs.Rules.{IsMachine}
-use Rattle.tta_arch.specs.Effects.{or_else, Target, Reg, Imm, Operand, Trigger, Control}
-use Rattle.tta_moves.specs.declared.items.Item.{Item}
-use Rattle.tta_moves.specs.declared.items.PlacedItem.{PlacedItem}
-use Rattle.tta_moves.specs.declared.items.Placed.{Placed}
-use Rattle.tta_moves.specs.Touches.{is_control, controls, target_of_item}
-use Rattle.tta_moves.specs.Slots.{fits_cycle, control_is_last}
-use Rattle.tta_moves.specs.Bounds.{lasts, last_end, control_cycle, length_of, in_cycle, Respects, due_after}
-use Rattle.tta_depend.specs.Stands.{end_of}
+use Rattle.tta_sched.specs.Cited.{Machine, IsMachine, or_else, Target, Reg, Imm, Operand, Trigger, Control, Item, PlacedItem, Placed, is_control, controls, target_of_item, fits_cycle, control_is_last, lasts, last_end, control_cycle, length_of, in_cycle, Respects, due_after, end_of}
 use Rattle.tta_depend.proofs.Asked.{end_push, last_end_is}
 use Rattle.tta_sched.specs.Serial.{StandsAlone, IsSerial, serial_length}
 use Rattle.tta_sched.proofs.Behind.{least_over, lasts_some}

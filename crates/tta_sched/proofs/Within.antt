@@ -5,22 +5,11 @@ use Rattle.std.specs.Option.{option_map_or}
 use Rattle.std.specs.List.{list_all}
 use Rattle.std.proofs.lemmas.Bool.{and_parts, and_from, lt-ltb}
 use Rattle.std.proofs.lemmas.Option.{slice_get_within}
-use Rattle.tta_arch.specs.declared.ends.GuardRef.{GuardRef}
-use Rattle.tta_arch.specs.declared.ends.Dest.{Dest}
+use Rattle.tta_sched.specs.Cited.{GuardRef, Dest, Machine, IsMachine, has_socket, within, joins, is_source_on, is_dest_on, has_guard, Target, Reg, Imm, Operand, Trigger, Control, Jumps, Calls, Halts, Place, KeptReg, KeptImm, KeptOperand, KeptPort, target_of, Item, guard_of, source_of, target_of_item, place_of_source, guard_place, place_written, is_place, carried, has_slot, At, Started, Touch, due_after, operand_read, reads_by, written_at, writes_by, is_spot, is_within}
 use Rattle.tta_arch.specs.declared.ends.Dest.TheVariants as dest
 use Rattle.tta_arch.specs.declared.parts.Unit.{Unit as OpUnit}
-use Rattle.tta_arch.specs.Machine.{Machine}
-use Rattle.tta_arch.specs.Rules.{IsMachine}
-use Rattle.tta_arch.specs.Joins.{has_socket, within, joins, is_source_on, is_dest_on, has_guard}
-use Rattle.tta_arch.specs.Effects.{Target, Reg, Imm, Operand, Trigger, Control, Jumps, Calls, Halts, Place, KeptReg, KeptImm, KeptOperand, KeptPort, target_of}
-use Rattle.tta_moves.specs.declared.items.Item.{Item}
 use Rattle.tta_moves.specs.declared.items.Item.TheVariants as item
-use Rattle.tta_moves.specs.Touches.{guard_of, source_of, target_of_item, place_of_source, guard_place, place_written}
-use Rattle.tta_moves.specs.Numbers.{is_place}
-use Rattle.tta_moves.specs.Slots.{carried, has_slot}
-use Rattle.tta_moves.specs.Bounds.{At, Started, Touch, due_after, operand_read, reads_by, written_at, writes_by}
 use Rattle.tta_moves.proofs.InRange.{InRange, in_range, some_bus}
-use Rattle.tta_depend.specs.Stands.{is_spot, is_within}
 
 -- ---- the unit of a trigger
 

@@ -1,16 +1,7 @@
 -- The steps of first fit.
 use Rattle.std.specs.Prelude.{◌≡◌, ℕ, ◌<◌, ◌≤◌, Bool, true, false, not, List, [], ◌∷◌, ◌++◌, Option, Some, None}
 use Rattle.std.specs.List.{list_all}
-use Rattle.tta_arch.specs.Machine.{Machine}
-use Rattle.tta_moves.specs.declared.items.Item.{Item}
-use Rattle.tta_moves.specs.declared.items.Slot.{Slot}
-use Rattle.tta_moves.specs.declared.items.PlacedItem.{PlacedItem}
-use Rattle.tta_moves.specs.Touches.{is_control}
-use Rattle.tta_moves.specs.Bounds.{least}
-use Rattle.tta_moves.specs.FirstFit.{fits_beside, FitsFirst}
-use Rattle.tta_depend.specs.Stands.{Kept, end_of, Stands}
-use Rattle.tta_reserve.specs.declared.row.Row.{Row}
-use Rattle.tta_reserve.specs.Booked.{StandsFor}
+use Rattle.tta_sched.specs.Cited.{Machine, Item, Slot, PlacedItem, is_control, least, fits_beside, FitsFirst, Kept, end_of, Stands, Row, StandsFor}
 
 -- whether no control item is placed
 abbrev pub no_control : List PlacedItem → Bool

@@ -1,15 +1,7 @@
 -- How long placed lists are at most, and what holds of every first fit.
 use Rattle.std.specs.Prelude.{◌≡◌, ℕ, ◌+◌, ◌*◌, ◌<◌, ◌≤◌, true, max, List, [], ◌∷◌, length, Some, slice_get}
-use Rattle.tta_arch.specs.declared.parts.UnitOp.{UnitOp}
+use Rattle.tta_sched.specs.Cited.{UnitOp, Machine, IsMachine, Item, Slot, PlacedItem, Placed, has_slot, is_list, fits_beside, IsFirstFit}
 use Rattle.tta_arch.specs.declared.parts.Unit.{Unit as OpUnit}
-use Rattle.tta_arch.specs.Machine.{Machine}
-use Rattle.tta_arch.specs.Rules.{IsMachine}
-use Rattle.tta_moves.specs.declared.items.Item.{Item}
-use Rattle.tta_moves.specs.declared.items.Slot.{Slot}
-use Rattle.tta_moves.specs.declared.items.PlacedItem.{PlacedItem}
-use Rattle.tta_moves.specs.declared.items.Placed.{Placed}
-use Rattle.tta_moves.specs.Slots.{has_slot, is_list}
-use Rattle.tta_moves.specs.FirstFit.{fits_beside, IsFirstFit}
 
 -- the greatest latency of operations, at least 1
 abbrev pub longest_of : List UnitOp → ℕ

@@ -1,16 +1,7 @@
 -- The placement of one item a cycle.
 use Rattle.std.specs.Option.{option_map_or}
-use Rattle.tta_moves.specs.Touches.{is_control}
+use Rattle.tta_sched.specs.Cited.{is_control, Machine, Item, Slot, PlacedItem, Placed, carries, length_of, number_of, end_of}
 use Rattle.std.specs.Prelude.{◌≡◌, ℕ, ◌+◌, ◌-◌, ◌<◌, true, false, if◌then◌else◌, length, max, List, map, take, Some, slice_get}
-use Rattle.tta_arch.specs.Machine.{Machine}
-use Rattle.tta_moves.specs.declared.items.Item.{Item}
-use Rattle.tta_moves.specs.declared.items.Slot.{Slot}
-use Rattle.tta_moves.specs.declared.items.PlacedItem.{PlacedItem}
-use Rattle.tta_moves.specs.declared.items.Placed.{Placed}
-use Rattle.tta_moves.specs.Slots.{carries}
-use Rattle.tta_moves.specs.Bounds.{length_of}
-use Rattle.tta_moves.specs.FirstFit.{number_of}
-use Rattle.tta_depend.specs.Stands.{end_of}
 
 -- no slot of a smaller number carries an item that is alone in its cycle
 abbrev pub IsLeastAlone : Machine → Item → Slot → Type 0

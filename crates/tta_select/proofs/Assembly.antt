@@ -6,33 +6,15 @@ use Rattle.std.proofs.lemmas.Bool.{and_parts, or_right}
 use Rattle.std.proofs.lemmas.Bool.Decides.{nat_tests}
 use Rattle.std.proofs.lemmas.List.Folds.{list_all-append}
 use Rattle.std.proofs.Math.Nat.{pow-le-pow_right}
-use Rattle.tta_ops.specs.Units.{Units}
-use Rattle.tta_arch.specs.declared.ends.GuardRef.{GuardRef}
-use Rattle.tta_arch.specs.declared.ends.Dest.{Dest}
-use Rattle.tta_arch.specs.declared.parts.Op.{Op}
-use Rattle.tta_arch.specs.declared.parts.Op.TheVariants.{Stw, Ldf, Stf}
-use Rattle.tta_arch.specs.Machine.{Machine}
-use Rattle.tta_arch.specs.Rules.{IsMachine, is_control}
-use Rattle.tta_connect.specs.declared.choice.Choice.{Choice}
-use Rattle.tta_connect.specs.Coverage.{hub_of, offered, IsChoice}
-use Rattle.tta_moves.specs.declared.items.ItemSource.{ItemSource}
-use Rattle.tta_moves.specs.declared.items.LongValue.{LongValue}
+use Rattle.tta_select.specs.Cited.{Units, GuardRef, Dest, Op, Stw, Ldf, Stf, Machine, IsMachine, Choice, hub_of, offered, IsChoice, ItemSource, LongValue, Item, Move, source_of, source_of_long, joined, is_list, is_straight, Frame, RStep, RBlock, StandsOver, names, assigns_block}
+use Rattle.tta_arch.specs.Rules.{is_control}
 use Rattle.tta_moves.specs.declared.items.LongValue.TheVariants as long
-use Rattle.tta_moves.specs.declared.items.Item.{Item}
-use Rattle.tta_moves.specs.declared.items.Item.TheVariants.{Move}
-use Rattle.tta_moves.specs.Touches.{source_of, source_of_long}
-use Rattle.tta_moves.specs.Slots.{joined, is_list}
-use Rattle.tta_moves.specs.Forms.{is_straight}
 use Rattle.tta_rcode.specs.declared.code.Place.{Place as RPlace}
-use Rattle.tta_rcode.specs.declared.code.Place.TheVariants.{Reg, Frame}
-use Rattle.tta_rcode.specs.declared.code.RStep.{RStep}
-use Rattle.tta_rcode.specs.declared.code.RBlock.{RBlock}
+use Rattle.tta_rcode.specs.declared.code.Place.TheVariants.{Reg}
 use Rattle.tta_select.specs.Select.{call_of, hub_at, through_hub, constant, carry, value, merged, brings_old, address_slot, items_of_step, items_of_exit, items_of_block, list_of}
-use Rattle.tta_arch.specs.Over.{StandsOver}
 use Rattle.tta_select.specs.Ground.{IsServed}
 use Rattle.tta_select.specs.Relation.{is_place_of}
 use Rattle.tta_select.specs.Needs.{op_of_step, op_of_exit, is_offered, is_step_of, is_exit_of, fits_step, fits_exit, fits_block, word_step, word_exit, word_block}
-use Rattle.tta_rcode.specs.Counts.{names, assigns_block}
 use Rattle.tta_select.specs.Counts.{targets, is_frame_trigger, is_home}
 use Rattle.tta_select.specs.Lists.{is_closed}
 use Rattle.tta_select.specs.Statement.{TriggersNoMore}

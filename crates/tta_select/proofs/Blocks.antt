@@ -3,26 +3,13 @@ use Rattle.std.proofs.Common.{◌≡◌, ◌<◌, ◌+◌, ℕ, suc, Bool, true,
 use Rattle.std.specs.Prelude.{if◌then◌else◌}
 use Rattle.std.specs.List.{flat_map, list_all}
 use Rattle.std.proofs.lemmas.Bool.{and_parts}
-use Rattle.tta_ops.specs.Units.{Units}
-use Rattle.tta_arch.specs.declared.parts.Op.TheVariants.{Ldf, Stf}
-use Rattle.tta_arch.specs.declared.parts.Op.{Op}
-use Rattle.tta_arch.specs.Machine.{Machine}
-use Rattle.tta_connect.specs.declared.choice.Choice.{Choice}
-use Rattle.tta_connect.specs.Coverage.{offered}
-use Rattle.tta_program.specs.Sequential.{Running, Halted, Waiting, holds}
-use Rattle.tta_moves.specs.declared.items.Item.{Item}
-use Rattle.tta_moves.specs.declared.items.BlockList.{BlockList}
-use Rattle.tta_moves.specs.Meaning.{Exit, Next, Waits, is_waiting, Held, do_items}
+use Rattle.tta_select.specs.Cited.{Units, Ldf, Stf, Op, Machine, Choice, offered, Running, Halted, Waiting, holds, Item, BlockList, Waits, is_waiting, Held, do_items, Leave, ToNext, ToBlock, ToHalt, ToWait, ToNowhere, Run, restart, leave_of, go_list, RStep, Copy, Apply, Load, Store, Put, When, SaveRa, RBlock, State, is_ready, puts_at, takes, carries, lost, step, goes_on, steps_of, can_leave, falls_through, transfers, to_block, unset, leaves, falls, walk, StandsOver}
+use Rattle.tta_moves.specs.Meaning.{Exit, Next}
 use Rattle.tta_list.specs.Legs as legs
-use Rattle.tta_list.specs.Legs.{Leave, ToNext, ToBlock, ToHalt, ToWait, ToNowhere, Run}
-use Rattle.tta_moves.specs.Runs.{restart, leave_of, go_list}
 use Rattle.tta_moves.proofs.Places.{either}
-use Rattle.tta_rcode.specs.declared.code.RStep.{RStep}
-use Rattle.tta_rcode.specs.declared.code.RStep.TheVariants.{Copy, Apply, Load, Take, Store, Put, When, SaveRa}
-use Rattle.tta_rcode.specs.declared.code.RBlock.{RBlock}
-use Rattle.tta_rcode.specs.Meaning.{State, is_ready, value, puts_at, takes, carries, lost, step, goes_on, steps_of, can_leave, falls_through, transfers, to_block, unset, leaves, falls, walk}
+use Rattle.tta_rcode.specs.declared.code.RStep.TheVariants.{Take}
+use Rattle.tta_rcode.specs.Meaning.{value}
 use Rattle.tta_select.specs.Select.{home_pair, items_of_step, items_of_exit, items_of_block, list_of}
-use Rattle.tta_arch.specs.Over.{StandsOver}
 use Rattle.tta_select.specs.Ground.{IsGround, IsServed}
 use Rattle.tta_select.specs.Relation.{Matches}
 use Rattle.tta_select.specs.Keeps.{as_legs}

@@ -2,20 +2,12 @@
 use Rattle.std.proofs.Common.{◌≡◌, ◌<◌, ℕ, Bool, true, false, List, [], ◌∷◌, ◌++◌, Option, Some, None, refl, sym, subst, arith, ◌∙◌, length}
 use Rattle.std.specs.Prelude.{if◌then◌else◌, ◌==◌, ◌&&◌}
 use Rattle.std.proofs.lemmas.Bool.Decides.{nat_tests}
-use Rattle.tta_ops.specs.Units.{Units}
-use Rattle.tta_arch.specs.declared.ends.GuardRef.{GuardRef}
-use Rattle.tta_arch.specs.declared.parts.Op.TheVariants.{Ldf, Stf}
-use Rattle.tta_arch.specs.Machine.{Machine}
-use Rattle.tta_arch.specs.Effects.{KeptReg, KeptOperand, kept, same_place, width_of}
-use Rattle.tta_connect.specs.declared.choice.Choice.{Choice}
-use Rattle.tta_moves.specs.declared.items.Item.{Item}
-use Rattle.tta_moves.specs.Meaning.{Next, Held}
+use Rattle.tta_select.specs.Cited.{Units, GuardRef, Ldf, Stf, Machine, KeptReg, KeptOperand, kept, same_place, width_of, Choice, Item, Held, Frame, RSrc, State, Kept, Plain, Return, found, plain, operand, puts_at}
+use Rattle.tta_moves.specs.Meaning.{Next}
 use Rattle.tta_moves.proofs.Places.{either, same_self, kept_there, kept_elsewhere}
 use Rattle.tta_rcode.specs.declared.code.Place.{Place as RPlace}
-use Rattle.tta_rcode.specs.declared.code.Place.TheVariants.{Reg, Frame}
-use Rattle.tta_rcode.specs.declared.code.RSrc.{RSrc}
+use Rattle.tta_rcode.specs.declared.code.Place.TheVariants.{Reg}
 use Rattle.tta_rcode.specs.declared.code.RSrc.TheVariants as rsrc
-use Rattle.tta_rcode.specs.Meaning.{State, Kept, Plain, Return, found, plain, operand, puts_at}
 use Rattle.tta_select.specs.Select.{call_of, trigger_at, hub_at, from_hub, home_at, from_home, value, address_slot, goes, merged, brings_old, choose, reaches}
 use Rattle.tta_select.specs.Ground.{IsGround, IsServed, home_place}
 use Rattle.tta_select.specs.Relation.{slot_word, Matches, is_place_of, is_src_of}

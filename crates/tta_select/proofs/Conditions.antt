@@ -4,24 +4,10 @@ use Rattle.std.specs.Prelude.{if◌then◌else◌, ◌==◌, ◌%◌, not}
 use Rattle.std.specs.Option.{option_map_or}
 use Rattle.std.proofs.lemmas.Nat.{mod_below}
 use Rattle.std.proofs.lemmas.Option.{slice_get_within}
-use Rattle.tta_ops.specs.declared.OpId.{OpId}
-use Rattle.tta_ops.specs.Units.{Units, named}
-use Rattle.tta_arch.specs.declared.parts.Op.TheVariants.{Ldf, Stf}
-use Rattle.tta_arch.specs.Machine.{Machine}
-use Rattle.tta_arch.specs.Effects.{KeptReg, passes}
-use Rattle.tta_connect.specs.declared.choice.Choice.{Choice}
-use Rattle.tta_program.specs.declared.operand.Rel.{Rel}
-use Rattle.tta_program.specs.declared.operand.Rel.TheVariants.{Eq, Ne, Lt, Ge, Ltu, Geu}
-use Rattle.tta_program.specs.Sequential.{holds, is_odd}
-use Rattle.tta_moves.specs.declared.items.Item.{Item}
-use Rattle.tta_moves.specs.declared.items.Item.TheVariants.{Move}
-use Rattle.tta_moves.specs.Meaning.{Next, Held}
+use Rattle.tta_select.specs.Cited.{OpId, Units, named, Ldf, Stf, Machine, KeptReg, passes, Choice, Rel, Eq, Ne, Lt, Ge, Ltu, Geu, holds, is_odd, Item, Move, Held, test_name, RSrc, State, operand, StandsOver}
+use Rattle.tta_moves.specs.Meaning.{Next}
 use Rattle.tta_moves.proofs.Places.{same_self, kept_there}
-use Rattle.tta_program.specs.Over.{test_name}
-use Rattle.tta_rcode.specs.declared.code.RSrc.{RSrc}
-use Rattle.tta_rcode.specs.Meaning.{State, operand}
 use Rattle.tta_select.specs.Select.{call_of, test_op, is_inverted, shown_at, guard_at, carry, operate, condition, guard_of_rel}
-use Rattle.tta_arch.specs.Over.{StandsOver}
 use Rattle.tta_select.specs.Ground.{IsGround, IsServed}
 use Rattle.tta_select.specs.Relation.{Matches, is_src_of}
 use Rattle.tta_select.proofs.Goes.{Goes, chain, Guarded}

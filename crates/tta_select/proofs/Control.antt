@@ -4,31 +4,17 @@ use Rattle.std.specs.Prelude.{if◌then◌else◌, ◌&&◌, ◌||◌, not, nat_
 use Rattle.std.specs.List.{flat_map, list_all, sum_by}
 use Rattle.std.proofs.lemmas.Bool.Decides.{nat_tests}
 use Rattle.std.proofs.lemmas.List.Sums.{sum_by-cons}
-use Rattle.tta_ops.specs.Units.{Units}
+use Rattle.tta_select.specs.Cited.{Units, GuardRef, Dest, Ldf, Machine, Choice, ItemSource, LongValue, Item, Move, source_of_long, controls, joined, control_is_last, RSrc, RStep, Copy, Apply, Load, Store, Put, When, SaveRa, RBlock, weight_step, weight_exit}
 use Rattle.tta_arch.specs.declared.parts.Template.{Template as Field}
-use Rattle.tta_arch.specs.declared.ends.GuardRef.{GuardRef}
-use Rattle.tta_arch.specs.declared.ends.Dest.{Dest}
 use Rattle.tta_arch.specs.declared.ends.Dest.TheVariants as dest
-use Rattle.tta_arch.specs.declared.parts.Op.TheVariants.{Ldf}
-use Rattle.tta_arch.specs.Machine.{Machine}
-use Rattle.tta_connect.specs.declared.choice.Choice.{Choice}
-use Rattle.tta_moves.specs.declared.items.ItemSource.{ItemSource}
-use Rattle.tta_moves.specs.declared.items.LongValue.{LongValue}
 use Rattle.tta_moves.specs.declared.items.LongValue.TheVariants as long
-use Rattle.tta_moves.specs.declared.items.Item.{Item}
-use Rattle.tta_moves.specs.declared.items.Item.TheVariants.{Move}
-use Rattle.tta_moves.specs.Touches.{source_of_long, controls, is_control}
-use Rattle.tta_moves.specs.Slots.{joined, control_is_last}
+use Rattle.tta_moves.specs.Touches.{is_control}
 use Rattle.tta_rcode.specs.declared.code.Place.{Place as RPlace}
 use Rattle.tta_rcode.specs.declared.code.Place.TheVariants as place
-use Rattle.tta_rcode.specs.declared.code.RSrc.{RSrc}
 use Rattle.tta_rcode.specs.declared.code.RSrc.TheVariants as rsrc
-use Rattle.tta_rcode.specs.declared.code.RStep.{RStep}
-use Rattle.tta_rcode.specs.declared.code.RStep.TheVariants.{Copy, Apply, Load, Take, Store, Put, When, SaveRa}
+use Rattle.tta_rcode.specs.declared.code.RStep.TheVariants.{Take}
 use Rattle.tta_rcode.specs.declared.code.Exit.{Exit as RExit}
 use Rattle.tta_rcode.specs.declared.code.Exit.TheVariants as rexit
-use Rattle.tta_rcode.specs.declared.code.RBlock.{RBlock}
-use Rattle.tta_rcode.specs.Counts.{weight_step, weight_exit}
 use Rattle.tta_select.specs.Select.{filled, call_of, trigger_at, shown_at, hub_at, from_hub, long_for, through_hub, long_hub, long_way, constant, carry, condition, guard_of_rel, items_of_step, items_of_exit, items_of_block}
 use Rattle.tta_select.proofs.Counting.{step_cost, src_cost, result_cost, condition_counts, steps_count}
 use Rattle.tta_select.proofs.Counted.{counted_item, counted_dest, constant_counts, carry_counts, move_counts}

@@ -3,30 +3,16 @@ use Rattle.std.proofs.Common.{◌≡◌, ◌<◌, ◌≤◌, ◌+◌, ℕ, suc, 
 use Rattle.std.specs.Prelude.{if◌then◌else◌, ◌==◌, ◌&&◌}
 use Rattle.std.specs.List.{list_all, list_any, sum_by}
 use Rattle.std.proofs.lemmas.Bool.Decides.{nat_tests}
-use Rattle.tta_ops.specs.Units.{Units}
+use Rattle.tta_select.specs.Cited.{Units, GuardRef, Dest, Machine, Target, Imm, KeptReg, same_place, target_of, Choice, ItemSource, LongValue, Item, Move, source_of_long, target_of_item, joined, RSrc, RStep, Copy, Apply, Load, Store, Put, When, SaveRa, RBlock, assigns_place, assigns_rstep, assigns_block}
 use Rattle.tta_arch.specs.declared.parts.Template.{Template as Field}
-use Rattle.tta_arch.specs.declared.ends.GuardRef.{GuardRef}
-use Rattle.tta_arch.specs.declared.ends.Dest.{Dest}
-use Rattle.tta_arch.specs.Machine.{Machine}
-use Rattle.tta_arch.specs.Effects.{Target, Reg, Imm, KeptReg, same_place, target_of}
-use Rattle.tta_connect.specs.declared.choice.Choice.{Choice}
-use Rattle.tta_moves.specs.declared.items.ItemSource.{ItemSource}
-use Rattle.tta_moves.specs.declared.items.LongValue.{LongValue}
-use Rattle.tta_moves.specs.declared.items.Item.{Item}
-use Rattle.tta_moves.specs.declared.items.Item.TheVariants.{Move}
-use Rattle.tta_moves.specs.Touches.{source_of_long, target_of_item}
-use Rattle.tta_moves.specs.Slots.{joined}
+use Rattle.tta_arch.specs.Effects.{Reg}
 use Rattle.tta_moves.proofs.Places.{either}
 use Rattle.tta_rcode.specs.declared.code.Place.{Place as RPlace}
 use Rattle.tta_rcode.specs.declared.code.Place.TheVariants as place
-use Rattle.tta_rcode.specs.declared.code.RSrc.{RSrc}
 use Rattle.tta_rcode.specs.declared.code.RSrc.TheVariants as rsrc
-use Rattle.tta_rcode.specs.declared.code.RStep.{RStep}
-use Rattle.tta_rcode.specs.declared.code.RStep.TheVariants.{Copy, Apply, Load, Take, Store, Put, When, SaveRa}
+use Rattle.tta_rcode.specs.declared.code.RStep.TheVariants.{Take}
 use Rattle.tta_rcode.specs.declared.code.Exit.{Exit as RExit}
 use Rattle.tta_rcode.specs.declared.code.Exit.TheVariants as rexit
-use Rattle.tta_rcode.specs.declared.code.RBlock.{RBlock}
-use Rattle.tta_rcode.specs.Counts.{assigns_place, assigns_rstep, assigns_block}
 use Rattle.tta_select.specs.Select.{goes, hub_at, from_hub, home_at, long_for, through_hub, long_hub, long_way, constant, carry, items_of_block}
 use Rattle.tta_select.specs.Ground.{IsGround}
 use Rattle.tta_select.specs.Counts.{targets, is_home}

@@ -4,31 +4,17 @@ use Rattle.std.specs.Prelude.{if◌then◌else◌, ◌==◌}
 use Rattle.std.specs.List.{flat_map, sum_by, list_all}
 use Rattle.std.proofs.lemmas.Bool.{and_parts}
 use Rattle.std.proofs.lemmas.List.Sums.{sum_by-append, sum_by-cons}
-use Rattle.tta_ops.specs.Units.{Units}
-use Rattle.tta_arch.specs.declared.ends.GuardRef.{GuardRef}
+use Rattle.tta_select.specs.Cited.{Units, GuardRef, Dest, Op, Ldw, Stw, Ldf, Stf, Out, Set, Machine, Choice, Call, Rel, ItemSource, Port, LongValue, Item, Frame, RSrc, RStep, Copy, Apply, Load, Store, Put, When, SaveRa, RBlock}
 use Rattle.tta_arch.specs.declared.ends.Source.TheVariants as source
-use Rattle.tta_arch.specs.declared.ends.Dest.{Dest}
 use Rattle.tta_arch.specs.declared.ends.Dest.TheVariants as dest
-use Rattle.tta_arch.specs.declared.parts.Op.{Op}
-use Rattle.tta_arch.specs.declared.parts.Op.TheVariants.{Ldw, Stw, Ldf, Stf, Out, Take as TakeIn, Set}
-use Rattle.tta_arch.specs.Machine.{Machine}
-use Rattle.tta_connect.specs.declared.choice.Choice.{Choice}
-use Rattle.tta_connect.specs.declared.calls.Call.{Call}
-use Rattle.tta_program.specs.declared.operand.Rel.{Rel}
-use Rattle.tta_moves.specs.declared.items.ItemSource.{ItemSource}
-use Rattle.tta_moves.specs.declared.items.ItemSource.TheVariants.{Port}
-use Rattle.tta_moves.specs.declared.items.LongValue.{LongValue}
+use Rattle.tta_arch.specs.declared.parts.Op.TheVariants.{Take as TakeIn}
 use Rattle.tta_moves.specs.declared.items.LongValue.TheVariants as long
-use Rattle.tta_moves.specs.declared.items.Item.{Item}
 use Rattle.tta_rcode.specs.declared.code.Place.{Place as RPlace}
-use Rattle.tta_rcode.specs.declared.code.Place.TheVariants.{Reg, Frame}
-use Rattle.tta_rcode.specs.declared.code.RSrc.{RSrc}
+use Rattle.tta_rcode.specs.declared.code.Place.TheVariants.{Reg}
 use Rattle.tta_rcode.specs.declared.code.RSrc.TheVariants as rsrc
-use Rattle.tta_rcode.specs.declared.code.RStep.{RStep}
-use Rattle.tta_rcode.specs.declared.code.RStep.TheVariants.{Copy, Apply, Load, Take, Store, Put, When, SaveRa}
+use Rattle.tta_rcode.specs.declared.code.RStep.TheVariants.{Take}
 use Rattle.tta_rcode.specs.declared.code.Exit.{Exit as RExit}
 use Rattle.tta_rcode.specs.declared.code.Exit.TheVariants as rexit
-use Rattle.tta_rcode.specs.declared.code.RBlock.{RBlock}
 use Rattle.tta_select.specs.Select.{goes, call_of, operand_at, trigger_at, shown_at, hub_at, from_hub, home_at, from_home, guard_at, constant, carry, fetch, value, reaches, operate, address_slot, result, merged, brings_old, choose, condition, guard_of_rel, test_op, items_of_step, items_of_exit, items_of_block}
 
 module _ (m : Machine) (c : Choice) (u : Units) (p : Dest → ℕ) (kc kr km : ℕ) where

@@ -4,12 +4,8 @@ use Rattle.std.specs.Prelude.{if◌then◌else◌, ◌==◌, ◌&&◌, nat_le}
 use Rattle.std.specs.Option.{option_map_or}
 use Rattle.std.specs.List.{range_with_len}
 use Rattle.std.proofs.lemmas.Bool.Decides.{nat_tests}
-use Rattle.tta_arch.specs.declared.parts.File.{File}
-use Rattle.tta_arch.specs.Machine.{Machine}
-use Rattle.tta_arch.specs.Effects.{KeptReg, same_place, width_of}
+use Rattle.tta_select.specs.Cited.{File, Machine, KeptReg, same_place, width_of, Choice, first_by, some_bus, from, into, is_hub, hub_of, guard_in, can_guard, guard_register, registers_from, homes_from, IsChoice}
 use Rattle.tta_arch.specs.declared.ends.Dest.TheVariants as dest
-use Rattle.tta_connect.specs.declared.choice.Choice.{Choice}
-use Rattle.tta_connect.specs.Coverage.{first_by, some_bus, from, into, is_hub, hub_of, guard_in, can_guard, guard_register, registers_from, homes_from, IsChoice}
 use Rattle.tta_moves.proofs.Places.{either}
 use Rattle.tta_select.specs.Select.{home_pair}
 use Rattle.tta_select.specs.Ground.{IsGround}

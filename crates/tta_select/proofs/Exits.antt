@@ -4,27 +4,15 @@ use Rattle.std.specs.Prelude.{◌==◌, not}
 use Rattle.std.specs.Option.{unwrap_or}
 use Rattle.std.proofs.lemmas.Bool.{and_parts}
 use Rattle.std.proofs.lemmas.Bool.Decides.{nat_tests}
-use Rattle.tta_ops.specs.Units.{Units}
-use Rattle.tta_arch.specs.declared.ends.GuardRef.{GuardRef}
+use Rattle.tta_select.specs.Cited.{Units, GuardRef, Ldf, Stf, Machine, Jumps, Calls, Halts, KeptRa, Choice, Rel, Outcome, Halted, holds, Item, Leaves, Held, ToBlock, ToHalt, block_at, leave_of, RSrc, State, Kept, Plain, Return, found, return_of, is_set, can_leave, falls_through, transfers, StandsOver}
 use Rattle.tta_arch.specs.declared.ends.Dest.TheVariants as dest
-use Rattle.tta_arch.specs.declared.parts.Op.TheVariants.{Ldf, Stf}
-use Rattle.tta_arch.specs.Machine.{Machine}
-use Rattle.tta_arch.specs.Effects.{Jumps, Calls, Halts, KeptRa}
-use Rattle.tta_connect.specs.declared.choice.Choice.{Choice}
-use Rattle.tta_program.specs.declared.operand.Rel.{Rel}
-use Rattle.tta_program.specs.Sequential.{Outcome, Halted, holds}
-use Rattle.tta_moves.specs.declared.items.Item.{Item}
 use Rattle.tta_moves.specs.declared.items.LongValue.TheVariants as long
-use Rattle.tta_moves.specs.Meaning.{Exit, Next, Leaves, Held}
-use Rattle.tta_list.specs.Legs.{ToBlock, ToHalt}
+use Rattle.tta_moves.specs.Meaning.{Exit, Next}
 use Rattle.tta_list.proofs.Tests.{some_same}
-use Rattle.tta_moves.specs.Runs.{block_at, leave_of}
-use Rattle.tta_rcode.specs.declared.code.RSrc.{RSrc}
 use Rattle.tta_rcode.specs.declared.code.Exit.{Exit as RExit}
 use Rattle.tta_rcode.specs.declared.code.Exit.TheVariants as rexit
-use Rattle.tta_rcode.specs.Meaning.{State, Kept, Plain, Return, found, return_of, value as word_of_operand, is_set, can_leave, falls_through, transfers}
+use Rattle.tta_rcode.specs.Meaning.{value as word_of_operand}
 use Rattle.tta_select.specs.Select.{guard_of_rel, constant, fetch, condition, test_op, is_inverted, items_of_exit}
-use Rattle.tta_arch.specs.Over.{StandsOver}
 use Rattle.tta_select.specs.Ground.{IsGround, IsServed}
 use Rattle.tta_select.specs.Relation.{slot_word, Matches, is_src_of}
 use Rattle.tta_select.specs.Needs.{op_of_exit, Served, is_exit_of}

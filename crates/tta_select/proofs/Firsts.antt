@@ -1,7 +1,6 @@
 -- The first answer along a list.
 use Rattle.std.proofs.Common.{◌≡◌, ◌+◌, ℕ, suc, List, [], ◌∷◌, Option, Some, None, refl, sym, ap, arith, ◌∙◌, slice_get, add-zero}
-use Rattle.tta_arch.specs.Effects.{or_else}
-use Rattle.tta_connect.specs.Coverage.{first_by}
+use Rattle.tta_select.specs.Cited.{or_else, first_by}
 
 pub record Found {A B : Type 0} (f : ℕ → A → Option B) (k : ℕ) (xs : List A) (b : B) : Type 0 where
   pub at : ℕ

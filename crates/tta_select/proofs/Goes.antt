@@ -2,13 +2,7 @@
 use Rattle.std.proofs.Common.{◌≡◌, ℕ, Bool, true, false, List, [], ◌∷◌, ◌++◌, Option, Some, None, refl, sym, subst}
 use Rattle.std.specs.Prelude.{if◌then◌else◌, ◌&&◌, ◌||◌, not}
 use Rattle.std.proofs.lemmas.Bool.{and_parts}
-use Rattle.tta_ops.specs.Units.{Units}
-use Rattle.tta_arch.specs.declared.ends.GuardRef.{GuardRef}
-use Rattle.tta_arch.specs.Machine.{Machine}
-use Rattle.tta_arch.specs.Effects.{Effect, Written, kept, passes, bring, Start, start_of, lacks_operand, has_unset, has_unset_guard}
-use Rattle.tta_moves.specs.declared.items.Item.{Item}
-use Rattle.tta_moves.specs.Touches.{guard_place}
-use Rattle.tta_moves.specs.Meaning.{Waits, is_waiting, Held, read_held, effect_of, acts, waits_for, arrives, does, lacks, do_items, has_meaning}
+use Rattle.tta_select.specs.Cited.{Units, GuardRef, Machine, Effect, Written, kept, passes, bring, Start, start_of, lacks_operand, has_unset, has_unset_guard, Item, guard_place, Waits, is_waiting, Held, read_held, effect_of, acts, waits_for, arrives, does, lacks, do_items, has_meaning}
 
 -- ---- items in a row
 

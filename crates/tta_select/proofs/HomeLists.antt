@@ -4,10 +4,7 @@ use Rattle.std.specs.Prelude.{if◌then◌else◌, ◌==◌, ◌&&◌, nat_lt, n
 use Rattle.std.proofs.lemmas.Bool.Decides.{nat_tests}
 use Rattle.std.proofs.lemmas.List.{get_or_append_left, get_or-append-add}
 use Rattle.std.proofs.lemmas.List.FromFn.{get_or-map-range_with_len, length-map-range_with_len}
-use Rattle.tta_arch.specs.declared.parts.File.{File}
-use Rattle.tta_arch.specs.Machine.{Machine}
-use Rattle.tta_arch.specs.Effects.{width_of}
-use Rattle.tta_connect.specs.Coverage.{registers_from, is_home_file, homes_from}
+use Rattle.tta_select.specs.Cited.{File, Machine, width_of, registers_from, is_home_file, homes_from}
 use Rattle.tta_moves.proofs.Places.{either}
 
 -- each pair of a list is so

@@ -6,25 +6,10 @@ use Rattle.std.specs.List.{list_any, range_with_len}
 use Rattle.std.proofs.lemmas.Bool.{and_parts, or_right}
 use Rattle.std.proofs.lemmas.Bool.Decides.{nat_tests}
 use Rattle.std.proofs.lemmas.Option.{slice_get_within}
-use Rattle.tta_arch.specs.declared.parts.Bus.{Bus}
-use Rattle.tta_arch.specs.declared.parts.File.{File}
+use Rattle.tta_select.specs.Cited.{Bus, File, Op, Stf, GuardRef, Dest, Machine, has_result, source_socket, dest_socket, has_socket, holds_word, is_source_on, is_dest_on, has_guard, joins, IsMachine, Choice, Call, buses_of, some_bus, from, into, brings_all, has_senses, hub_feeds, is_usable, is_usable_at, offered, registers_from, is_home_file, homes_from, IsChoice, ItemSource, Port, carried, joined}
 use Rattle.tta_arch.specs.declared.parts.Template.{Template as Field}
-use Rattle.tta_arch.specs.declared.parts.Op.{Op}
-use Rattle.tta_arch.specs.declared.parts.Op.TheVariants.{Stf}
-use Rattle.tta_arch.specs.declared.ends.GuardRef.{GuardRef}
 use Rattle.tta_arch.specs.declared.ends.Source.TheVariants as source
-use Rattle.tta_arch.specs.declared.ends.Dest.{Dest}
 use Rattle.tta_arch.specs.declared.ends.Dest.TheVariants as dest
-use Rattle.tta_arch.specs.Machine.{Machine}
-use Rattle.tta_arch.specs.Effects.{has_result}
-use Rattle.tta_arch.specs.Joins.{source_socket, dest_socket, has_socket, holds_word, is_source_on, is_dest_on, has_guard, joins}
-use Rattle.tta_arch.specs.Rules.{IsMachine}
-use Rattle.tta_connect.specs.declared.choice.Choice.{Choice}
-use Rattle.tta_connect.specs.declared.calls.Call.{Call}
-use Rattle.tta_connect.specs.Coverage.{buses_of, some_bus, from, into, brings_all, has_senses, hub_feeds, is_usable, is_usable_at, offered, registers_from, is_home_file, homes_from, IsChoice}
-use Rattle.tta_moves.specs.declared.items.ItemSource.{ItemSource}
-use Rattle.tta_moves.specs.declared.items.ItemSource.TheVariants.{Port}
-use Rattle.tta_moves.specs.Slots.{carried, joined}
 use Rattle.tta_moves.proofs.Places.{either}
 use Rattle.tta_select.specs.Select.{filled, call_of, operand_at, trigger_at, shown_at, hub_at, from_hub, home_pair, home_at, from_home, long_for}
 use Rattle.tta_select.specs.Reaches.{guard_by, HasJoins}

@@ -2,13 +2,11 @@
 use Rattle.std.proofs.Common.{◌≡◌, ◌<◌, ℕ, Bool, true, false, List, ◌∷◌, Some, refl, sym, ap, subst, arith, ◌∙◌, length, slice_index, slice_set, get_or-set_same, get_or-set_other, length-set}
 use Rattle.std.specs.Prelude.{if◌then◌else◌, ◌==◌}
 use Rattle.std.proofs.lemmas.Bool.Decides.{nat_tests}
-use Rattle.tta_arch.specs.Machine.{Machine}
-use Rattle.tta_arch.specs.Effects.{Place, KeptReg, KeptRa, kept, same_place, width_of}
-use Rattle.tta_connect.specs.declared.choice.Choice.{Choice}
-use Rattle.tta_moves.specs.Meaning.{Exit, Held}
+use Rattle.tta_select.specs.Cited.{Machine, KeptReg, KeptRa, kept, same_place, width_of, Choice, Held, State, Kept, found, puts_at}
+use Rattle.tta_arch.specs.Effects.{Place}
+use Rattle.tta_moves.specs.Meaning.{Exit}
 use Rattle.tta_moves.proofs.Places.{either, same_self, kept_there, kept_elsewhere}
 use Rattle.tta_rcode.specs.declared.code.Place.TheVariants.{Reg}
-use Rattle.tta_rcode.specs.Meaning.{State, Kept, found, puts_at}
 use Rattle.tta_select.specs.Select.{home_pair}
 use Rattle.tta_select.specs.Ground.{IsGround, home_place}
 use Rattle.tta_select.specs.Relation.{slot_word, Matches}

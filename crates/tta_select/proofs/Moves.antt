@@ -1,18 +1,10 @@
 -- Single moves, and states that differ only in what passes through.
 use Rattle.std.proofs.Common.{◌≡◌, ℕ, Bool, true, false, List, [], ◌∷◌, Option, Some, None, refl, ap, subst, ◌∙◌}
 use Rattle.std.specs.Prelude.{if◌then◌else◌, ◌==◌, ◌%◌}
-use Rattle.tta_ops.specs.Units.{Units}
-use Rattle.tta_arch.specs.declared.ends.GuardRef.{GuardRef}
-use Rattle.tta_arch.specs.declared.ends.Dest.{Dest}
+use Rattle.tta_select.specs.Cited.{Units, GuardRef, Dest, UnitOp, Machine, Trigger, Jumps, Calls, Halts, KeptReg, KeptImm, KeptOperand, KeptRa, KeptPort, same_place, kept, width_of, Start, start_of, operand_of, op_at, ItemSource, LongValue, Move, Long, source_of_long, Leaves, Waits, is_waiting, Held, read_held, linked, effect_of, acts, waits_for}
 use Rattle.tta_arch.specs.declared.ends.Dest.TheVariants as dest
-use Rattle.tta_arch.specs.declared.parts.UnitOp.{UnitOp}
-use Rattle.tta_arch.specs.Machine.{Machine}
-use Rattle.tta_arch.specs.Effects.{Trigger, Jumps, Calls, Halts, Place, KeptReg, KeptImm, KeptOperand, KeptRa, KeptPort, same_place, kept, width_of, Start, start_of, operand_of, op_at}
-use Rattle.tta_moves.specs.declared.items.ItemSource.{ItemSource}
-use Rattle.tta_moves.specs.declared.items.LongValue.{LongValue}
-use Rattle.tta_moves.specs.declared.items.Item.TheVariants.{Move, Long}
-use Rattle.tta_moves.specs.Touches.{source_of_long}
-use Rattle.tta_moves.specs.Meaning.{Next, Leaves, Waits, is_waiting, Held, read_held, linked, effect_of, acts, waits_for}
+use Rattle.tta_arch.specs.Effects.{Place}
+use Rattle.tta_moves.specs.Meaning.{Next}
 use Rattle.tta_moves.proofs.Places.{either, kept_elsewhere}
 use Rattle.tta_select.proofs.Goes.{Goes, one, Guarded, brings, rests, rests_does, rests_lacks, brings_does, brings_lacks, starts_does, starts_lacks}
 use Rattle.tta_arch.proofs.Places.{same_is}

@@ -6,16 +6,8 @@ use Rattle.std.proofs.lemmas.Bool.Decides.{nat_tests}
 use Rattle.tta_list.proofs.Lists.{list_all_one}
 use Rattle.tta_list.proofs.Tests.{some_same}
 use Rattle.tta_arch.specs.declared.parts.Unit.{Unit as OpUnit}
-use Rattle.tta_arch.specs.declared.parts.UnitOp.{UnitOp}
-use Rattle.tta_arch.specs.declared.parts.Op.{Op}
-use Rattle.tta_arch.specs.declared.parts.Op.TheVariants.{Ldw, Stw, Ldf, Stf, Out, Take, Set}
-use Rattle.tta_arch.specs.Machine.{Machine}
-use Rattle.tta_arch.specs.Effects.{op_at, has_result}
-use Rattle.tta_arch.specs.Joins.{has_bit}
-use Rattle.tta_arch.specs.Rules.{IsMachine, is_unit, is_unit_op, fits_kind, same_op}
-use Rattle.tta_connect.specs.declared.choice.Choice.{Choice}
-use Rattle.tta_connect.specs.declared.calls.Call.{Call}
-use Rattle.tta_connect.specs.Coverage.{first_by, call_if, call_in, offered}
+use Rattle.tta_select.specs.Cited.{UnitOp, Op, Ldw, Stw, Ldf, Stf, Out, Set, Machine, op_at, has_result, has_bit, IsMachine, is_unit, is_unit_op, fits_kind, same_op, Choice, Call, first_by, call_if, call_in, offered}
+use Rattle.tta_arch.specs.declared.parts.Op.TheVariants.{Take}
 use Rattle.tta_select.specs.Select.{call_of}
 use Rattle.tta_select.specs.Ground.{IsServed}
 use Rattle.tta_select.proofs.Firsts.{first_there}

@@ -1,25 +1,13 @@
 -- The list of a block of constants runs as the block does.
 use Rattle.std.proofs.Common.{◌≡◌, ℕ, zero, suc, true, false, List, [], ◌∷◌, ◌++◌, Some, None, refl, sym, ap, subst, ◌∙◌, map, append-nil, append_assoc}
 use Rattle.std.specs.Prelude.{slice_index}
-use Rattle.tta_ops.specs.Units.{Units}
+use Rattle.tta_select.specs.Cited.{Units, Out, Machine, Effect, Halts, op_at, Call, Port, Move, Held, Leaves, effect_of, does, lacks, does_all, means, Run, Leave, ToHalt, next_leg, begin, restart, leave_of, go_list, lrun, Rir, State, start, step, steps_of, leg, rrun, one_block}
 use Rattle.tta_arch.specs.declared.ends.Source.TheVariants as source
 use Rattle.tta_arch.specs.declared.ends.Dest.TheVariants as dest
-use Rattle.tta_arch.specs.declared.parts.Op.TheVariants.{Out}
-use Rattle.tta_arch.specs.Machine.{Machine}
-use Rattle.tta_arch.specs.Effects.{Effect, Halts, op_at}
-use Rattle.tta_connect.specs.declared.calls.Call.{Call}
 use Rattle.tta_program.specs.Sequential as program
-use Rattle.tta_moves.specs.declared.items.ItemSource.TheVariants.{Port}
-use Rattle.tta_moves.specs.declared.items.Item.TheVariants.{Move}
-use Rattle.tta_moves.specs.Meaning.{Held, Leaves, effect_of, does, lacks, does_all, means}
 use Rattle.tta_list.specs.Legs as legs
-use Rattle.tta_list.specs.Legs.{Run, Leave, ToHalt, next_leg}
-use Rattle.tta_moves.specs.Runs.{begin, restart, leave_of, go_list, lrun}
 use Rattle.tta_rcode.specs.declared.code.RSrc.TheVariants as rsrc
 use Rattle.tta_rcode.specs.declared.code.RStep.TheVariants as rstep
-use Rattle.tta_rcode.specs.declared.code.Rir.{Rir}
-use Rattle.tta_rcode.specs.Meaning.{State, start, step, steps_of, leg, rrun}
-use Rattle.tta_rcode.specs.Direct.{one_block}
 use Rattle.tta_select.specs.Direct.{constants_out, direct_list}
 use Rattle.tta_select.specs.Keeps as select
 use Rattle.tta_select.proofs.OutputJoins.{CanOutput, can_output}

@@ -11,20 +11,9 @@ use Rattle.tta_list.proofs.Lists.{list_all_one, all_one, some_within}
 use Rattle.tta_list.proofs.Tests.{some_same}
 use Rattle.tta_arch.specs.declared.ends.Source.TheVariants as source
 use Rattle.tta_arch.specs.declared.ends.Dest.TheVariants as dest
-use Rattle.tta_arch.specs.declared.parts.Bus.{Bus}
-use Rattle.tta_arch.specs.declared.parts.Socket.{Socket}
+use Rattle.tta_select.specs.Cited.{Bus, Socket, UnitOp, Op, Ldw, Stw, Ldf, Stf, Out, Set, Machine, op_at, has_bit, holds_word, is_source_on, is_dest_on, joins, is_same, IsMachine, IsBusSet, is_socket, is_port_socket, is_from_to, is_unit, is_unit_op, fits_kind, same_op, Call, first_by, call_if, anywhere, Port, joined}
 use Rattle.tta_arch.specs.declared.parts.Unit.{Unit as OpUnit}
-use Rattle.tta_arch.specs.declared.parts.UnitOp.{UnitOp}
-use Rattle.tta_arch.specs.declared.parts.Op.{Op}
-use Rattle.tta_arch.specs.declared.parts.Op.TheVariants.{Ldw, Stw, Ldf, Stf, Out, Take as TakeIn, Set}
-use Rattle.tta_arch.specs.Machine.{Machine}
-use Rattle.tta_arch.specs.Effects.{op_at}
-use Rattle.tta_arch.specs.Joins.{has_bit, holds_word, is_source_on, is_dest_on, joins, is_same}
-use Rattle.tta_arch.specs.Rules.{IsMachine, IsBusSet, is_socket, is_port_socket, is_from_to, is_unit, is_unit_op, fits_kind, same_op}
-use Rattle.tta_connect.specs.declared.calls.Call.{Call}
-use Rattle.tta_connect.specs.Coverage.{first_by, call_if, anywhere}
-use Rattle.tta_moves.specs.declared.items.ItemSource.TheVariants.{Port}
-use Rattle.tta_moves.specs.Slots.{joined}
+use Rattle.tta_arch.specs.declared.parts.Op.TheVariants.{Take as TakeIn}
 use Rattle.tta_select.specs.Select.{trigger_at, no_call}
 use Rattle.tta_select.specs.Direct.{out_of, brings}
 use Rattle.tta_select.proofs.Firsts.{first_there}

@@ -3,14 +3,10 @@ use Rattle.std.proofs.Common.{◌≡◌, ℕ, Bool, true, false, List, [], ◌�
 use Rattle.std.specs.Prelude.{if◌then◌else◌, ◌==◌, ◌||◌, filter}
 use Rattle.std.specs.List.{list_any}
 use Rattle.std.proofs.lemmas.Bool.Decides.{nat_tests}
-use Rattle.tta_arch.specs.Machine.{Machine}
-use Rattle.tta_arch.specs.Effects.{Place, KeptRa, Written, kept, same_place}
-use Rattle.tta_connect.specs.declared.choice.Choice.{Choice}
-use Rattle.tta_moves.specs.Meaning.{Exit, Next, Held}
-use Rattle.tta_moves.specs.Runs.{lives, restart}
+use Rattle.tta_select.specs.Cited.{Machine, KeptRa, Written, kept, same_place, Choice, Held, lives, restart, RBlock, State, found, stay, unset}
+use Rattle.tta_arch.specs.Effects.{Place}
+use Rattle.tta_moves.specs.Meaning.{Exit, Next}
 use Rattle.tta_moves.proofs.Places.{either}
-use Rattle.tta_rcode.specs.declared.code.RBlock.{RBlock}
-use Rattle.tta_rcode.specs.Meaning.{State, found, stay, unset}
 use Rattle.tta_select.specs.Select.{home_pair}
 use Rattle.tta_select.specs.Ground.{home_place}
 use Rattle.tta_select.specs.Relation.{Matches}

@@ -3,24 +3,14 @@ use Rattle.std.proofs.Common.{◌≡◌, ◌<◌, ◌≤◌, ℕ, Bool, true, fa
 use Rattle.std.specs.Prelude.{if◌then◌else◌, ◌==◌}
 use Rattle.std.proofs.lemmas.Bool.{and_parts}
 use Rattle.std.proofs.lemmas.Bool.Decides.{nat_tests}
-use Rattle.tta_ops.specs.declared.OpId.{OpId}
-use Rattle.tta_ops.specs.Units.{Units}
-use Rattle.tta_arch.specs.declared.parts.Op.TheVariants.{Ldf, Stf, Set}
-use Rattle.tta_arch.specs.Machine.{Machine}
-use Rattle.tta_arch.specs.Rules.{is_from_to}
-use Rattle.tta_arch.specs.Effects.{Place, KeptOperand, KeptPort, kept, same_place}
-use Rattle.tta_connect.specs.declared.choice.Choice.{Choice}
-use Rattle.tta_connect.specs.declared.calls.Call.{Call}
+use Rattle.tta_select.specs.Cited.{OpId, Units, Ldf, Stf, Set, Machine, is_from_to, KeptOperand, KeptPort, kept, same_place, Choice, Call, Item, Held, Frame, RSrc, State, Kept, Plain, found, operand, puts_at, StandsOver}
+use Rattle.tta_arch.specs.Effects.{Place}
 use Rattle.tta_moves.specs.declared.items.LongValue.TheVariants as long
-use Rattle.tta_moves.specs.declared.items.Item.{Item}
-use Rattle.tta_moves.specs.Meaning.{Exit, Next, Held}
+use Rattle.tta_moves.specs.Meaning.{Exit, Next}
 use Rattle.tta_moves.proofs.Places.{same_self, kept_there, kept_elsewhere}
 use Rattle.tta_rcode.specs.declared.code.Place.{Place as RPlace}
-use Rattle.tta_rcode.specs.declared.code.Place.TheVariants.{Reg, Frame}
-use Rattle.tta_rcode.specs.declared.code.RSrc.{RSrc}
-use Rattle.tta_rcode.specs.Meaning.{State, Kept, Plain, found, operand, puts_at}
+use Rattle.tta_rcode.specs.declared.code.Place.TheVariants.{Reg}
 use Rattle.tta_select.specs.Select.{call_of, operand_at, trigger_at, shown_at, home_at, carry, value, operate, address_slot, result}
-use Rattle.tta_arch.specs.Over.{StandsOver}
 use Rattle.tta_select.specs.Ground.{IsGround, IsServed, home_place}
 use Rattle.tta_select.specs.Relation.{slot_word, Matches, is_place_of, is_src_of}
 use Rattle.tta_select.proofs.Goes.{Goes, chain}

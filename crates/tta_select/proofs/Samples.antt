@@ -1,15 +1,10 @@
 -- The rules and the choice on machines of one bus and of three.
 use Rattle.std.specs.Prelude.{◌≡◌, [], ◌∷◌, ◌++◌, Some, None, false, refl}
-use Rattle.tta_arch.specs.Machine.{Machine}
+use Rattle.tta_select.specs.Cited.{Machine, Choice, failed_rule, registers_from, Port, Move, Long, Frame}
 use Rattle.tta_arch.specs.declared.ends.Source.TheVariants as source
 use Rattle.tta_arch.specs.declared.ends.Dest.TheVariants as dest
 use Rattle.tta_arch.proofs.Samples.{three_buses}
-use Rattle.tta_connect.specs.declared.choice.Choice.{Choice}
-use Rattle.tta_connect.specs.Coverage.{failed_rule, registers_from}
-use Rattle.tta_moves.specs.declared.items.ItemSource.TheVariants.{Port}
 use Rattle.tta_moves.specs.declared.items.LongValue.TheVariants as long
-use Rattle.tta_moves.specs.declared.items.Item.TheVariants.{Move, Long}
-use Rattle.tta_rcode.specs.declared.code.Place.TheVariants.{Frame}
 use Rattle.tta_rcode.specs.declared.code.RSrc.TheVariants as rsrc
 use Rattle.tta_select.specs.Select.{constant, value}
 

@@ -3,18 +3,8 @@ use Rattle.std.proofs.Common.{◌≡◌, ℕ, suc, Bool, true, List, [], ◌∷�
 use Rattle.std.specs.List.{list_all}
 use Rattle.std.proofs.lemmas.Bool.{and_parts}
 use Rattle.std.proofs.lemmas.List.{length-map}
-use Rattle.tta_list.specs.Legs.{AllPairs}
+use Rattle.tta_select.specs.Cited.{AllPairs, Units, Ldf, Stf, Machine, Choice, hub_of, offered, BlockList, is_straight, source_of, RBlock, Rir}
 use Rattle.tta_list.proofs.Lists.{list_all_one}
-use Rattle.tta_ops.specs.Units.{Units}
-use Rattle.tta_arch.specs.declared.parts.Op.TheVariants.{Ldf, Stf}
-use Rattle.tta_arch.specs.Machine.{Machine}
-use Rattle.tta_connect.specs.declared.choice.Choice.{Choice}
-use Rattle.tta_connect.specs.Coverage.{hub_of, offered}
-use Rattle.tta_moves.specs.declared.items.BlockList.{BlockList}
-use Rattle.tta_moves.specs.Forms.{is_straight}
-use Rattle.tta_moves.specs.Touches.{source_of}
-use Rattle.tta_rcode.specs.declared.code.RBlock.{RBlock}
-use Rattle.tta_rcode.specs.declared.code.Rir.{Rir}
 use Rattle.tta_select.specs.Select.{list_of, selected}
 use Rattle.tta_select.specs.Needs.{fits_block, word_block}
 use Rattle.tta_select.specs.Lists.{is_closed}

@@ -5,23 +5,11 @@ use Rattle.std.specs.List.{list_all, list_any}
 use Rattle.std.proofs.lemmas.Bool.Decides.{nat_tests}
 use Rattle.std.proofs.lemmas.List.Folds.{list_all-append}
 use Rattle.std.proofs.lemmas.Bool.{or_right}
-use Rattle.tta_ops.specs.Units.{Units}
+use Rattle.tta_select.specs.Cited.{Units, GuardRef, Dest, Ldf, Stf, Machine, Choice, offered, ItemSource, LongValue, Item, Move, Long, source_of_long, joined, fills, has_slot, Frame}
 use Rattle.tta_arch.specs.declared.parts.Template.{Template as Field}
-use Rattle.tta_arch.specs.declared.ends.GuardRef.{GuardRef}
-use Rattle.tta_arch.specs.declared.ends.Dest.{Dest}
-use Rattle.tta_arch.specs.declared.parts.Op.TheVariants.{Ldf, Stf}
-use Rattle.tta_arch.specs.Machine.{Machine}
-use Rattle.tta_connect.specs.declared.choice.Choice.{Choice}
-use Rattle.tta_connect.specs.Coverage.{offered}
-use Rattle.tta_moves.specs.declared.items.ItemSource.{ItemSource}
-use Rattle.tta_moves.specs.declared.items.LongValue.{LongValue}
 use Rattle.tta_moves.specs.declared.items.LongValue.TheVariants as long
-use Rattle.tta_moves.specs.declared.items.Item.{Item}
-use Rattle.tta_moves.specs.declared.items.Item.TheVariants.{Move, Long}
-use Rattle.tta_moves.specs.Touches.{source_of_long}
-use Rattle.tta_moves.specs.Slots.{joined, fills, has_slot}
 use Rattle.tta_rcode.specs.declared.code.Place.{Place as RPlace}
-use Rattle.tta_rcode.specs.declared.code.Place.TheVariants.{Reg, Frame}
+use Rattle.tta_rcode.specs.declared.code.Place.TheVariants.{Reg}
 use Rattle.tta_select.specs.Select.{goes, filled, call_of, trigger_at, hub_at, from_hub, long_for, through_hub, long_hub, long_way, constant, carry, value, address_slot, merged, brings_old}
 use Rattle.tta_select.specs.Relation.{is_place_of}
 use Rattle.tta_select.specs.Reaches.{guard_by, HasJoins}

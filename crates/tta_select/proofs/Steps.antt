@@ -4,28 +4,17 @@ use Rattle.std.specs.Prelude.{if◌then◌else◌, ◌==◌}
 use Rattle.std.specs.Option.{unwrap_or}
 use Rattle.std.proofs.lemmas.Bool.{and_parts}
 use Rattle.std.proofs.lemmas.Bool.Decides.{nat_tests}
-use Rattle.tta_ops.specs.Units.{Units}
+use Rattle.tta_select.specs.Cited.{Units, Ldw, Stw, Ldf, Stf, Out, Set, Machine, KeptPort, Choice, Call, Rel, Waiting, holds, Port, Item, Waits, Held, Frame, RSrc, RStep, Copy, Apply, Load, Store, Put, When, SaveRa, State, Plain, Return, operand, is_set, puts_at, takes, is_ready, carries, StandsOver}
 use Rattle.tta_arch.specs.declared.ends.Source.TheVariants as source
-use Rattle.tta_arch.specs.declared.parts.Op.TheVariants.{Ldw, Stw, Ldf, Stf, Out, Take as TakeIn, Set}
-use Rattle.tta_arch.specs.Machine.{Machine}
-use Rattle.tta_arch.specs.Effects.{KeptPort}
-use Rattle.tta_connect.specs.declared.choice.Choice.{Choice}
-use Rattle.tta_connect.specs.declared.calls.Call.{Call}
-use Rattle.tta_program.specs.declared.operand.Rel.{Rel}
-use Rattle.tta_program.specs.Sequential.{Waiting, holds}
-use Rattle.tta_moves.specs.declared.items.ItemSource.TheVariants.{Port}
-use Rattle.tta_moves.specs.declared.items.Item.{Item}
+use Rattle.tta_arch.specs.declared.parts.Op.TheVariants.{Take as TakeIn}
 use Rattle.tta_moves.specs.declared.items.LongValue.TheVariants as long
-use Rattle.tta_moves.specs.Meaning.{Next, Waits, Held}
+use Rattle.tta_moves.specs.Meaning.{Next}
 use Rattle.tta_rcode.specs.declared.code.Place.{Place as RPlace}
-use Rattle.tta_rcode.specs.declared.code.Place.TheVariants.{Reg, Frame}
-use Rattle.tta_rcode.specs.declared.code.RSrc.{RSrc}
+use Rattle.tta_rcode.specs.declared.code.Place.TheVariants.{Reg}
 use Rattle.tta_rcode.specs.declared.code.RSrc.TheVariants as rsrc
-use Rattle.tta_rcode.specs.declared.code.RStep.{RStep}
-use Rattle.tta_rcode.specs.declared.code.RStep.TheVariants.{Copy, Apply, Load, Take, Store, Put, When, SaveRa}
-use Rattle.tta_rcode.specs.Meaning.{State, Plain, Return, operand, value as word_of_operand, is_set, puts_at, takes, is_ready, carries}
+use Rattle.tta_rcode.specs.declared.code.RStep.TheVariants.{Take}
+use Rattle.tta_rcode.specs.Meaning.{value as word_of_operand}
 use Rattle.tta_select.specs.Select.{call_of, operand_at, trigger_at, home_at, constant, carry, value, operate, address_slot, result, condition, guard_of_rel, choose, test_op, items_of_step, is_inverted}
-use Rattle.tta_arch.specs.Over.{StandsOver}
 use Rattle.tta_select.specs.Ground.{IsGround, IsServed, home_place}
 use Rattle.tta_select.specs.Relation.{Matches, is_place_of, is_src_of}
 use Rattle.tta_select.specs.Needs.{op_of_step, Served, is_step_of}

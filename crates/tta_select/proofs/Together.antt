@@ -1,14 +1,8 @@
 -- Where two units offer one operation, a list may start it on each. Each unit alone is triggered once, and the operation is
 -- started twice.
 use Rattle.std.proofs.Common.{◌≡◌, ℕ, List, [], ◌∷◌, Some, refl}
-use Rattle.tta_arch.specs.declared.parts.UnitOp.{UnitOp}
-use Rattle.tta_arch.specs.declared.parts.Op.TheVariants.{Out}
+use Rattle.tta_select.specs.Cited.{UnitOp, Out, Machine, op_at, Call, Port, Item}
 use Rattle.tta_arch.specs.declared.ends.Source.TheVariants as source
-use Rattle.tta_arch.specs.Machine.{Machine}
-use Rattle.tta_arch.specs.Effects.{op_at}
-use Rattle.tta_connect.specs.declared.calls.Call.{Call}
-use Rattle.tta_moves.specs.declared.items.ItemSource.TheVariants.{Port}
-use Rattle.tta_moves.specs.declared.items.Item.{Item}
 use Rattle.tta_select.specs.Counts.{targets, is_trigger_of, is_start_of}
 use Rattle.tta_select.specs.Select.{goes, trigger_at}
 

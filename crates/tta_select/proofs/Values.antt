@@ -3,25 +3,13 @@ use Rattle.std.proofs.Common.{◌≡◌, ◌<◌, ℕ, Bool, true, false, List, 
 use Rattle.std.specs.Prelude.{if◌then◌else◌, ◌==◌}
 use Rattle.std.proofs.lemmas.Bool.{and_parts}
 use Rattle.std.proofs.lemmas.Bool.Decides.{nat_tests}
-use Rattle.tta_ops.specs.Units.{Units}
-use Rattle.tta_arch.specs.declared.ends.GuardRef.{GuardRef}
-use Rattle.tta_arch.specs.declared.ends.Dest.{Dest}
-use Rattle.tta_arch.specs.declared.parts.UnitOp.{UnitOp}
-use Rattle.tta_arch.specs.declared.parts.Op.{Op}
-use Rattle.tta_arch.specs.declared.parts.Op.TheVariants.{Ldf}
-use Rattle.tta_arch.specs.Machine.{Machine}
-use Rattle.tta_arch.specs.Effects.{Trigger, Place, KeptOperand, KeptPort, kept, operand_of}
-use Rattle.tta_connect.specs.declared.choice.Choice.{Choice}
-use Rattle.tta_connect.specs.declared.calls.Call.{Call}
+use Rattle.tta_select.specs.Cited.{Units, GuardRef, Dest, UnitOp, Op, Ldf, Machine, Trigger, KeptOperand, KeptPort, kept, operand_of, Choice, Call, Item, Move, Waits, Held, acts, waits_for, Frame, RSrc, State, Kept, Plain, Return, found, plain, operand}
+use Rattle.tta_arch.specs.Effects.{Place}
 use Rattle.tta_moves.specs.declared.items.LongValue.TheVariants as long
-use Rattle.tta_moves.specs.declared.items.Item.{Item}
-use Rattle.tta_moves.specs.declared.items.Item.TheVariants.{Move}
-use Rattle.tta_moves.specs.Meaning.{Next, Waits, Held, acts, waits_for}
+use Rattle.tta_moves.specs.Meaning.{Next}
 use Rattle.tta_moves.proofs.Places.{same_self, kept_there}
-use Rattle.tta_rcode.specs.declared.code.Place.TheVariants.{Reg, Frame}
-use Rattle.tta_rcode.specs.declared.code.RSrc.{RSrc}
+use Rattle.tta_rcode.specs.declared.code.Place.TheVariants.{Reg}
 use Rattle.tta_rcode.specs.declared.code.RSrc.TheVariants as rsrc
-use Rattle.tta_rcode.specs.Meaning.{State, Kept, Plain, Return, found, plain, operand}
 use Rattle.tta_select.specs.Select.{call_of, operand_at, trigger_at, shown_at, from_home, constant, carry, fetch, value}
 use Rattle.tta_select.specs.Ground.{IsGround, IsServed}
 use Rattle.tta_select.specs.Relation.{slot_word, Matches, is_src_of}

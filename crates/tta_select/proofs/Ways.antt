@@ -1,21 +1,10 @@
 -- A way changes nothing but what passes through, and its last move brings the word.
 use Rattle.std.proofs.Common.{◌≡◌, ℕ, Bool, true, false, List, [], ◌∷◌, ◌++◌, Option, Some, None, refl, sym, subst}
 use Rattle.std.specs.Prelude.{if◌then◌else◌, ◌&&◌, slice_index}
-use Rattle.tta_ops.specs.Units.{Units}
+use Rattle.tta_select.specs.Cited.{Units, GuardRef, Dest, Machine, KeptReg, KeptImm, Choice, ItemSource, LongValue, Item, Move, Long, source_of_long, joined, Held, read_held, linked}
 use Rattle.tta_arch.specs.declared.parts.Template.{Template as Field}
-use Rattle.tta_arch.specs.declared.ends.GuardRef.{GuardRef}
-use Rattle.tta_arch.specs.declared.ends.Dest.{Dest}
-use Rattle.tta_arch.specs.Machine.{Machine}
-use Rattle.tta_arch.specs.Effects.{KeptReg, KeptImm}
-use Rattle.tta_connect.specs.declared.choice.Choice.{Choice}
-use Rattle.tta_moves.specs.declared.items.ItemSource.{ItemSource}
-use Rattle.tta_moves.specs.declared.items.LongValue.{LongValue}
 use Rattle.tta_moves.specs.declared.items.LongValue.TheVariants as long
-use Rattle.tta_moves.specs.declared.items.Item.{Item}
-use Rattle.tta_moves.specs.declared.items.Item.TheVariants.{Move, Long}
-use Rattle.tta_moves.specs.Touches.{source_of_long}
-use Rattle.tta_moves.specs.Slots.{joined}
-use Rattle.tta_moves.specs.Meaning.{Next, Held, read_held, linked}
+use Rattle.tta_moves.specs.Meaning.{Next}
 use Rattle.tta_moves.proofs.Places.{same_self, kept_there}
 use Rattle.tta_select.specs.Select.{goes, filled, hub_at, from_hub, long_for, through_hub, long_hub, long_way, constant, carry}
 use Rattle.tta_select.specs.Ground.{IsGround}

@@ -5,22 +5,10 @@ use Rattle.std.specs.List.{list_all}
 use Rattle.std.proofs.lemmas.Bool.{and_parts}
 use Rattle.std.proofs.lemmas.Bool.Decides.{nat_tests}
 use Rattle.std.proofs.lemmas.List.{drop-map, drop_all as nothing_behind, length-map, length-replicate, get_or-replicate}
-use Rattle.tta_ops.specs.Units.{Units}
-use Rattle.tta_arch.specs.declared.parts.Op.{Op}
-use Rattle.tta_arch.specs.declared.parts.Op.TheVariants.{Ldf, Stf}
-use Rattle.tta_arch.specs.Machine.{Machine}
-use Rattle.tta_connect.specs.declared.choice.Choice.{Choice}
-use Rattle.tta_connect.specs.Coverage.{offered}
-use Rattle.tta_program.specs.Sequential.{Outcome, Running, Halted, Waiting}
-use Rattle.tta_moves.specs.Meaning.{Held}
+use Rattle.tta_select.specs.Cited.{Units, Op, Ldf, Stf, Machine, Choice, offered, Outcome, Running, Halted, Waiting, Held, Run, next_leg, go_list, begin, lrun, Rir, State, goes_on, walk, leg, start, rrun, lost, StandsOver}
 use Rattle.tta_list.specs.Legs as legs
-use Rattle.tta_list.specs.Legs.{Run, next_leg}
-use Rattle.tta_moves.specs.Runs.{go_list, begin, lrun}
 use Rattle.tta_moves.proofs.Places.{either}
-use Rattle.tta_rcode.specs.declared.code.Rir.{Rir}
-use Rattle.tta_rcode.specs.Meaning.{State, goes_on, walk, leg, start, rrun, lost}
 use Rattle.tta_select.specs.Select.{list_of, selected}
-use Rattle.tta_arch.specs.Over.{StandsOver}
 use Rattle.tta_select.specs.Ground.{IsGround, IsServed}
 use Rattle.tta_select.specs.Needs.{fits_block}
 use Rattle.tta_select.specs.Keeps.{as_legs, IsFit, KeepsMeaning}

@@ -2,16 +2,9 @@
 use Rattle.std.specs.Prelude.{ℕ, ◌==◌, Bool, true, false, ◌&&◌, if◌then◌else◌, List, length}
 use Rattle.std.specs.Option.{option_map_or}
 use Rattle.std.specs.List.{list_any, sum_by}
-use Rattle.tta_arch.specs.declared.parts.Op.{Op}
-use Rattle.tta_arch.specs.declared.parts.Op.TheVariants.{Ldw, Stw, Out, Take, Set}
-use Rattle.tta_arch.specs.Machine.{Machine}
-use Rattle.tta_arch.specs.Effects.{Target, Reg, Imm, Operand, Trigger, Control, op_at}
-use Rattle.tta_arch.specs.Rules.{same_op, is_frame_op}
-use Rattle.tta_connect.specs.declared.choice.Choice.{Choice}
-use Rattle.tta_moves.specs.declared.items.Item.{Item}
-use Rattle.tta_moves.specs.declared.items.BlockList.{BlockList}
-use Rattle.tta_moves.specs.Touches.{target_of_item}
-use Rattle.tta_rcode.specs.Counts.{Need, Loads, Stores, Puts, Takes, Named}
+use Rattle.tta_select.specs.Cited.{Op, Ldw, Stw, Out, Set, Machine, Target, Imm, Operand, Trigger, Control, op_at, same_op, is_frame_op, Choice, Item, BlockList, target_of_item, Need, Loads, Stores, Puts, Takes, Named}
+use Rattle.tta_arch.specs.declared.parts.Op.TheVariants.{Take}
+use Rattle.tta_arch.specs.Effects.{Reg}
 
 -- one for each item whose target passes a test
 abbrev pub targets : (Target → Bool) → List Item → ℕ

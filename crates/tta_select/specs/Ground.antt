@@ -1,10 +1,7 @@
 -- What selection relies on of a machine and a choice.
 use Rattle.std.specs.Prelude.{◌≡◌, ℕ, ◌<◌, ◌==◌, true, false, length, Some}
-use Rattle.tta_arch.specs.declared.parts.Op.{Op}
-use Rattle.tta_arch.specs.Machine.{Machine}
-use Rattle.tta_arch.specs.Effects.{Place, KeptReg, same_place, width_of, op_at}
-use Rattle.tta_arch.specs.Rules.{fits_kind}
-use Rattle.tta_connect.specs.declared.choice.Choice.{Choice}
+use Rattle.tta_select.specs.Cited.{Op, Machine, KeptReg, same_place, width_of, op_at, fits_kind, Choice}
+use Rattle.tta_arch.specs.Effects.{Place}
 use Rattle.tta_select.specs.Select.{call_of, home_pair}
 
 -- the place of a home register

@@ -1,17 +1,8 @@
 -- When lists of moves have the meaning of register code.
 use Rattle.std.specs.Prelude.{◌≡◌, ℕ, true, List, length}
 use Rattle.std.specs.List.{list_all}
-use Rattle.tta_ops.specs.Units.{Units}
-use Rattle.tta_arch.specs.Machine.{Machine}
-use Rattle.tta_connect.specs.declared.choice.Choice.{Choice}
-use Rattle.tta_program.specs.Sequential.{Outcome, Running, Halted, Waiting}
-use Rattle.tta_moves.specs.declared.items.BlockList.{BlockList}
-use Rattle.tta_moves.specs.Meaning.{Held}
+use Rattle.tta_select.specs.Cited.{Units, Machine, Choice, Outcome, Running, Halted, Waiting, BlockList, Held, Run, AreAddresses, lrun, Rir, State, rrun}
 use Rattle.tta_list.specs.Legs as legs
-use Rattle.tta_list.specs.Legs.{Run}
-use Rattle.tta_moves.specs.Runs.{AreAddresses, lrun}
-use Rattle.tta_rcode.specs.declared.code.Rir.{Rir}
-use Rattle.tta_rcode.specs.Meaning.{State, rrun}
 use Rattle.tta_select.specs.Needs.{fits_block, word_block}
 
 -- an outcome of register code as one of lists

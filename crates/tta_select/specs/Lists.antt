@@ -1,7 +1,6 @@
 -- Addresses in the list of a block.
 use Rattle.std.specs.Prelude.{ℕ, Bool, true, nat_lt}
-use Rattle.tta_moves.specs.declared.items.ItemSource.{ItemSource}
-use Rattle.tta_moves.specs.declared.items.ItemSource.TheVariants.{Port, Address}
+use Rattle.tta_select.specs.Cited.{ItemSource, Port, Address}
 
 -- whether a source is no address, or that of one of so many blocks
 abbrev pub is_closed : (blocks : ℕ) → ItemSource → Bool

@@ -2,19 +2,12 @@
 use Rattle.std.specs.Prelude.{◌≡◌, ℕ, Bool, true, false, ◌&&◌, nat_lt, nat_le, ◌^◌, length, Option, Some, None, is_some}
 use Rattle.std.specs.Option.{option_map_or}
 use Rattle.std.specs.List.{list_all}
-use Rattle.tta_ops.specs.Units.{Units}
-use Rattle.tta_arch.specs.declared.parts.Op.{Op}
-use Rattle.tta_arch.specs.declared.parts.Op.TheVariants.{Ldw, Stw, Out, Take as TakeIn, Set}
-use Rattle.tta_arch.specs.Machine.{Machine}
-use Rattle.tta_connect.specs.declared.choice.Choice.{Choice}
-use Rattle.tta_connect.specs.Coverage.{offered}
-use Rattle.tta_rcode.specs.declared.code.RSrc.{RSrc}
+use Rattle.tta_select.specs.Cited.{Units, Op, Ldw, Stw, Out, Set, Machine, Choice, offered, RSrc, RStep, Copy, Apply, Load, Store, Put, When, SaveRa, Goto, If, Invoke, Back, Halt, RBlock}
+use Rattle.tta_arch.specs.declared.parts.Op.TheVariants.{Take as TakeIn}
 use Rattle.tta_rcode.specs.declared.code.RSrc.TheVariants as rsrc
-use Rattle.tta_rcode.specs.declared.code.RStep.{RStep}
-use Rattle.tta_rcode.specs.declared.code.RStep.TheVariants.{Copy, Apply, Load, Take, Store, Put, When, SaveRa}
+use Rattle.tta_rcode.specs.declared.code.RStep.TheVariants.{Take}
 use Rattle.tta_rcode.specs.declared.code.Exit.{Exit}
-use Rattle.tta_rcode.specs.declared.code.Exit.TheVariants.{Next, Goto, If, Invoke, Back, Halt}
-use Rattle.tta_rcode.specs.declared.code.RBlock.{RBlock}
+use Rattle.tta_rcode.specs.declared.code.Exit.TheVariants.{Next}
 use Rattle.tta_select.specs.Select.{test_op}
 use Rattle.tta_select.specs.Ground.{IsServed}
 use Rattle.tta_select.specs.Relation.{is_place_of, is_src_of}

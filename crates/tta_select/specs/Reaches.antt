@@ -1,17 +1,8 @@
 -- What a choice reaches: the hub all that can be asked for, and all that can be read the hub.
 use Rattle.std.specs.Prelude.{◌≡◌, ℕ, ◌<◌, ◌^◌, ◌⊎◌, ◌==◌, Bool, true, false, length, Some, None, is_some}
-use Rattle.tta_arch.specs.declared.parts.Op.{Op}
-use Rattle.tta_arch.specs.declared.parts.Op.TheVariants.{Stf}
-use Rattle.tta_arch.specs.declared.ends.GuardRef.{GuardRef}
+use Rattle.tta_select.specs.Cited.{Op, Stf, GuardRef, Machine, has_result, Choice, offered, Port, joined, is_passing}
 use Rattle.tta_arch.specs.declared.ends.Source.TheVariants as source
 use Rattle.tta_arch.specs.declared.ends.Dest.TheVariants as dest
-use Rattle.tta_arch.specs.Machine.{Machine}
-use Rattle.tta_arch.specs.Effects.{has_result}
-use Rattle.tta_connect.specs.declared.choice.Choice.{Choice}
-use Rattle.tta_connect.specs.Coverage.{offered}
-use Rattle.tta_moves.specs.declared.items.ItemSource.TheVariants.{Port}
-use Rattle.tta_moves.specs.Slots.{joined}
-use Rattle.tta_moves.specs.Forms.{is_passing}
 use Rattle.tta_select.specs.Select.{call_of, operand_at, trigger_at, shown_at, hub_at, from_hub, home_at, from_home, guard_at, long_for}
 
 -- a guard on the compiler's register

@@ -2,40 +2,18 @@
 use Rattle.std.specs.Prelude.{ℕ, ◌==◌, Bool, true, false, ◌&&◌, ◌||◌, if◌then◌else◌, List, [], ◌∷◌, ◌++◌, map, Option, Some, None, is_some, get_or, find}
 use Rattle.std.specs.Option.{option_map_or, unwrap_or}
 use Rattle.std.specs.List.{flat_map}
-use Rattle.tta_ops.specs.Units.{Units, named}
+use Rattle.tta_select.specs.Cited.{Units, named, Op, Ldw, Stw, Ldf, Stf, Out, Set, GuardRef, Dest, Machine, Choice, Call, offered, Rel, Eq, Ne, Lt, Ge, Ltu, Geu, ItemSource, Port, LongValue, Item, Move, Long, BlockList, source_of_long, joined, test_name, RSrc, RStep, Copy, Apply, Load, Store, Put, When, SaveRa, Goto, If, Invoke, Back, Halt, RBlock, Rir}
 use Rattle.tta_arch.specs.declared.parts.Template.{Template as Field}
-use Rattle.tta_arch.specs.declared.parts.Op.{Op}
-use Rattle.tta_arch.specs.declared.parts.Op.TheVariants.{Ldw, Stw, Ldf, Stf, Out, Take, Set}
-use Rattle.tta_arch.specs.declared.ends.GuardRef.{GuardRef}
+use Rattle.tta_arch.specs.declared.parts.Op.TheVariants.{Take}
 use Rattle.tta_arch.specs.declared.ends.Source.TheVariants as source
-use Rattle.tta_arch.specs.declared.ends.Dest.{Dest}
 use Rattle.tta_arch.specs.declared.ends.Dest.TheVariants as dest
-use Rattle.tta_arch.specs.Machine.{Machine}
-use Rattle.tta_connect.specs.declared.choice.Choice.{Choice}
-use Rattle.tta_connect.specs.declared.calls.Call.{Call}
-use Rattle.tta_connect.specs.Coverage.{offered}
-use Rattle.tta_program.specs.declared.operand.Rel.{Rel}
-use Rattle.tta_program.specs.declared.operand.Rel.TheVariants.{Eq, Ne, Lt, Ge, Ltu, Geu}
-use Rattle.tta_moves.specs.declared.items.ItemSource.{ItemSource}
-use Rattle.tta_moves.specs.declared.items.ItemSource.TheVariants.{Port}
-use Rattle.tta_moves.specs.declared.items.LongValue.{LongValue}
 use Rattle.tta_moves.specs.declared.items.LongValue.TheVariants as long
-use Rattle.tta_moves.specs.declared.items.Item.{Item}
-use Rattle.tta_moves.specs.declared.items.Item.TheVariants.{Move, Long}
-use Rattle.tta_moves.specs.declared.items.BlockList.{BlockList}
-use Rattle.tta_moves.specs.Touches.{source_of_long}
-use Rattle.tta_moves.specs.Slots.{joined}
-use Rattle.tta_program.specs.Over.{test_name}
 use Rattle.tta_rcode.specs.declared.code.Place.{Place}
 use Rattle.tta_rcode.specs.declared.code.Place.TheVariants as place
-use Rattle.tta_rcode.specs.declared.code.RSrc.{RSrc}
 use Rattle.tta_rcode.specs.declared.code.RSrc.TheVariants as rsrc
-use Rattle.tta_rcode.specs.declared.code.RStep.{RStep}
-use Rattle.tta_rcode.specs.declared.code.RStep.TheVariants.{Copy, Apply, Load, Take as TakeIn, Store, Put, When, SaveRa}
+use Rattle.tta_rcode.specs.declared.code.RStep.TheVariants.{Take as TakeIn}
 use Rattle.tta_rcode.specs.declared.code.Exit.{Exit}
-use Rattle.tta_rcode.specs.declared.code.Exit.TheVariants.{Next, Goto, If, Invoke, Back, Halt}
-use Rattle.tta_rcode.specs.declared.code.RBlock.{RBlock}
-use Rattle.tta_rcode.specs.declared.code.Rir.{Rir}
+use Rattle.tta_rcode.specs.declared.code.Exit.TheVariants.{Next}
 
 -- ---- what a condition needs
 

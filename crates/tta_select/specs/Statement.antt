@@ -1,22 +1,7 @@
 -- What selection gives: lists of moves that do what register code does.
 use Rattle.std.specs.Prelude.{◌≡◌, ◌≤◌, ◌+◌, ◌^◌, ℕ, true, false, List, [], ◌∷◌, length, map}
 use Rattle.std.specs.List.{list_all}
-use Rattle.tta_list.specs.Legs.{AllPairs}
-use Rattle.tta_ops.specs.Units.{Units}
-use Rattle.tta_arch.specs.declared.parts.Op.{Op}
-use Rattle.tta_arch.specs.Machine.{Machine}
-use Rattle.tta_arch.specs.Over.{StandsOver}
-use Rattle.tta_arch.specs.Rules.{IsMachine, is_frame_op}
-use Rattle.tta_connect.specs.declared.choice.Choice.{Choice}
-use Rattle.tta_connect.specs.Coverage.{IsChoice, hub_of}
-use Rattle.tta_moves.specs.declared.items.BlockList.{BlockList}
-use Rattle.tta_moves.specs.Forms.{is_straight}
-use Rattle.tta_moves.specs.Slots.{is_list}
-use Rattle.tta_moves.specs.Touches.{source_of}
-use Rattle.tta_rcode.specs.declared.code.RBlock.{RBlock}
-use Rattle.tta_rcode.specs.declared.code.Rir.{Rir}
-use Rattle.tta_rcode.specs.Counts.{names, asks, assigns_block, weight}
-use Rattle.tta_rcode.specs.Direct.{one_block}
+use Rattle.tta_select.specs.Cited.{AllPairs, Units, Op, Machine, StandsOver, IsMachine, is_frame_op, Choice, IsChoice, hub_of, BlockList, is_straight, is_list, source_of, RBlock, Rir, names, asks, assigns_block, weight, one_block}
 use Rattle.tta_select.specs.Select.{home_pair, selected}
 use Rattle.tta_select.specs.Keeps.{IsFit, KeepsMeaning}
 use Rattle.tta_select.specs.Counts.{targets, is_start_of, is_frame_trigger, is_home, is_need, items_in}

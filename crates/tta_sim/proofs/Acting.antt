@@ -3,13 +3,8 @@ use Rattle.std.proofs.Common.{◌≡◌, ℕ, ◌<◌, ◌+◌, ◌==◌, true, 
 use Rattle.std.specs.Prelude.{is_some, is_none, option_map, slice_get, option_to_list, fold, if◌then◌else◌}
 use Rattle.std.specs.Option.{unwrap_or}
 use Rattle.std.specs.List.{filter_map, find, list_any, AllByRecursion}
-use Rattle.tta_ops.specs.Units.{Units}
-use Rattle.tta_arch.specs.Machine.{Machine}
-use Rattle.tta_arch.specs.Rules.{IsMachine}
-use Rattle.tta_arch.specs.Effects.{Kind, Jumps, Calls, Halts, KeptOperand, Written, Brought, Start, Reads, bring, write_of, start_of, first_some, control_of, store_data, store_frame, put_out, takes, take_in}
-use Rattle.tta_code.specs.declared.code.Instruction.{Instruction}
-use Rattle.tta_code.specs.Legal.{is_legal}
-use Rattle.tta_code.specs.Cycle.{Result', Pending as Underway, State, Running, Waiting, Fault, read_source, effects_of, fault_of, result_of, pending_after, takes_effect, lands, acts, or_fault, or_wait, waits, carry_out}
+use Rattle.tta_sim.specs.Cited.{Units, Machine, IsMachine, Kind, Jumps, Calls, Halts, KeptOperand, Written, Brought, Start, Reads, bring, write_of, start_of, first_some, control_of, store_data, store_frame, put_out, takes, take_in, Instruction, is_legal, Result', State, Waiting, Fault, read_source, effects_of, fault_of, result_of, pending_after, takes_effect, lands, acts, or_fault, or_wait, waits, carry_out, IsFed, left}
+use Rattle.tta_code.specs.Cycle.{Pending as Underway, Running}
 use Rattle.tta_sim.specs.declared.cycle_step.CycleStep.TheVariants.{Ran, Waiting as Waits, Fault as Faults}
 use Rattle.tta_sim.specs.declared.control.Control.{Control}
 use Rattle.tta_sim.specs.declared.control.Pending.{Pending}
@@ -23,7 +18,6 @@ use Rattle.tta_sim.specs.Moves.{Arrival, is_possible_slot, reads_of, arrivals_of
 use Rattle.tta_sim.specs.Starts.{starts_of, operand_with, fault_in, begun, puts, acting_in}
 use Rattle.tta_sim.specs.Writing.{long_writes}
 use Rattle.tta_sim.specs.Controls.{underway, outcome_of, controlled, pending_with}
-use Rattle.tta_list.specs.Input.{IsFed, left}
 use Rattle.tta_sim.specs.Held.{StandsWith, is_fault}
 use Rattle.tta_sim.specs.Kept.{held_of, IsCarried}
 use Rattle.tta_sim.proofs.Possible.{possible}

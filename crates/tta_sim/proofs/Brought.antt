@@ -5,14 +5,8 @@ use Rattle.std.specs.Option.{option_map_or, option_or}
 use Rattle.std.specs.List.{list_any, filter_map, cons_option, find, AllByRecursion}
 use Rattle.std.proofs.lemmas.Bool.{ltb-true}
 use Rattle.tta_list.proofs.Tests.{or_swap}
-use Rattle.tta_arch.specs.declared.parts.Template.{Template}
-use Rattle.tta_arch.specs.declared.ends.Dest.{Dest}
+use Rattle.tta_sim.specs.Cited.{Template, Dest, Machine, KeptReg, KeptImm, KeptOperand, KeptRa, Reads, Start, width_of, write_of, first_some, control_of, is_port, has_unset, Move, Long, effect_of}
 use Rattle.tta_arch.specs.declared.ends.Dest.TheVariants as dest
-use Rattle.tta_arch.specs.Machine.{Machine}
-use Rattle.tta_arch.specs.Effects.{KeptReg, KeptImm, KeptOperand, KeptRa, Reads, Start, width_of, write_of, first_some, control_of, is_port, has_unset}
-use Rattle.tta_code.specs.declared.code.Move.{Move}
-use Rattle.tta_code.specs.declared.code.Long.{Long}
-use Rattle.tta_code.specs.Cycle.{effect_of}
 use Rattle.tta_sim.specs.declared.decoded.DecodedStart.{DecodedStart}
 use Rattle.tta_sim.specs.declared.decoded.DecodedWrite.{DecodedWrite}
 use Rattle.tta_sim.specs.declared.decoded.DecodedSource.TheVariants as decoded

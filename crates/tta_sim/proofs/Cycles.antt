@@ -1,7 +1,7 @@
 -- What a cycle leaves that faults.
 use Rattle.std.proofs.Common.{◌≡◌, ℕ, ◌+◌, Option, Some, refl, sym, ◌∙◌, subst, arith}
 use Rattle.std.specs.Prelude.{is_some}
-use Rattle.tta_ops.specs.Units.{Units}
+use Rattle.tta_sim.specs.Cited.{Units}
 use Rattle.tta_sim.specs.declared.cycle_step.CycleStep.{CycleStep}
 use Rattle.tta_sim.specs.declared.cycle_step.CycleStep.TheVariants.{Fault as Faults}
 use Rattle.tta_sim.specs.declared.control.Control.{Control}

@@ -4,9 +4,7 @@ use Rattle.std.specs.Prelude.{option_to_list, option_and_then}
 use Rattle.std.specs.List.{filter_map}
 use Rattle.std.proofs.lemmas.List.{take_more, length-take-le}
 use Rattle.std.proofs.lemmas.List.Elements.{filter_map-append}
-use Rattle.tta_arch.specs.Machine.{Machine}
-use Rattle.tta_code.specs.declared.code.Move.{Move}
-use Rattle.tta_code.specs.declared.code.Instruction.{Instruction}
+use Rattle.tta_sim.specs.Cited.{Machine, Move, Instruction}
 use Rattle.tta_sim.specs.declared.decoded.Line.{Line}
 use Rattle.tta_sim.specs.Decoded.{write_decoded, start_decoded, control_decoded, line_of, lines_from, with_move}
 use Rattle.tta_sim.proofs.Lists.{filter_map-one}

@@ -2,14 +2,9 @@
 use Rattle.std.proofs.Common.{◌≡◌, ℕ, zero, suc, ◌+◌, ◌<◌, ◌≤◌, get_or, true, false, IsTrue, List, [], ◌∷◌, length, replicate, Option, Some, None, refl, sym, ap, ◌∙◌, subst, arith}
 use Rattle.std.specs.Prelude.{slice_get}
 use Rattle.std.specs.List.{AllByRecursion}
-use Rattle.tta_ops.specs.Units.{Units}
-use Rattle.tta_arch.specs.Machine.{Machine}
-use Rattle.tta_arch.specs.Rules.{IsMachine}
+use Rattle.tta_sim.specs.Cited.{Units, Machine, IsMachine, Instruction, Code, is_legal, IsLegalCode, State, Halted, Fault, next, start, carry_out}
 use Rattle.std.proofs.lemmas.List.{length-replicate}
-use Rattle.tta_code.specs.declared.code.Instruction.{Instruction}
-use Rattle.tta_code.specs.declared.code.Code.{Code}
-use Rattle.tta_code.specs.Legal.{is_legal, IsLegalCode}
-use Rattle.tta_code.specs.Cycle.{State, Running, Halted, Fault, next, start, carry_out}
+use Rattle.tta_code.specs.Cycle.{Running}
 use Rattle.tta_sim.specs.declared.cycle_step.CycleStep.{CycleStep}
 use Rattle.tta_sim.specs.declared.cycle_step.CycleStep.TheVariants.{Ran, Halted as HadHalted, Waiting as Waits, Fault as Faults}
 use Rattle.tta_sim.specs.declared.control.Control.{Control}

@@ -3,16 +3,9 @@ use Rattle.std.proofs.Common.{◌≡◌, ℕ, ◌%◌, ◌==◌, Bool, true, fal
 use Rattle.std.specs.Prelude.{is_none, is_some, option_map, option_and_then, slice_index_or, if◌then◌else◌}
 use Rattle.std.specs.Option.{option_map_or}
 use Rattle.std.specs.List.{list_any, filter_map, cons_option, AllByRecursion}
-use Rattle.tta_arch.specs.declared.ends.GuardRef.{GuardRef}
-use Rattle.tta_arch.specs.declared.ends.Source.{Source}
+use Rattle.tta_sim.specs.Cited.{GuardRef, Source, Dest, UnitOp, Machine, Kind, Jumps, Calls, Halts, Reads, KeptReg, KeptOperand, KeptRa, Start, width_of, write_of, op_at, or_else, first_some, control_of, moved, is_active, is_port, has_unset_guard, has_unset, Move, effect_of}
 use Rattle.tta_arch.specs.declared.ends.Source.TheVariants as source
-use Rattle.tta_arch.specs.declared.ends.Dest.{Dest}
 use Rattle.tta_arch.specs.declared.ends.Dest.TheVariants as dest
-use Rattle.tta_arch.specs.declared.parts.UnitOp.{UnitOp}
-use Rattle.tta_arch.specs.Machine.{Machine}
-use Rattle.tta_arch.specs.Effects.{Kind, Jumps, Calls, Halts, Reads, KeptReg, KeptOperand, KeptRa, Start, width_of, write_of, op_at, or_else, first_some, control_of, moved, is_active, is_port, has_unset_guard, has_unset}
-use Rattle.tta_code.specs.declared.code.Move.{Move}
-use Rattle.tta_code.specs.Cycle.{effect_of}
 use Rattle.tta_sim.specs.declared.decoded.DecodedStart.{DecodedStart}
 use Rattle.tta_sim.specs.declared.lines.Write.{Write}
 use Rattle.tta_sim.specs.Moves.{Arrival, reads_of, lacks_register, arrival_of, brought_of}

@@ -5,26 +5,10 @@ use Rattle.std.specs.Option.{option_map_or}
 use Rattle.std.specs.List.{list_any, list_all, filter_map, AllByRecursion}
 use Rattle.std.proofs.lemmas.Bool.{and_parts, and_from, eqb-true, ltb-true, lt-ltb}
 use Rattle.tta_list.proofs.Lists.{list_all_one, some_within}
-use Rattle.tta_arch.specs.declared.parts.File.{File}
-use Rattle.tta_arch.specs.declared.parts.ImmUnit.{ImmUnit}
-use Rattle.tta_arch.specs.declared.parts.Guard.{Guard}
-use Rattle.tta_arch.specs.declared.parts.Template.{Template}
-use Rattle.tta_arch.specs.declared.ends.GuardRef.{GuardRef}
-use Rattle.tta_arch.specs.declared.ends.Source.{Source}
+use Rattle.tta_sim.specs.Cited.{File, ImmUnit, Guard, Template, GuardRef, Source, Dest, Machine, within, source_socket, dest_socket, has_socket, is_source_on, is_dest_on, has_guard, joins, is_same, is_same_guard, all_slots, IsMachine, is_file, is_imm, is_guard, is_template, KeptReg, KeptImm, Move, Long, Instruction, moves_of, ends_of, is_legal}
 use Rattle.tta_arch.specs.declared.ends.Source.TheVariants as source
-use Rattle.tta_arch.specs.declared.ends.Dest.{Dest}
 use Rattle.tta_arch.specs.declared.ends.Dest.TheVariants as dest
-use Rattle.tta_arch.specs.Machine.{Machine}
-use Rattle.tta_arch.specs.Joins.{within, source_socket, dest_socket, has_socket, is_source_on, is_dest_on, has_guard, joins, is_same, is_same_guard}
-use Rattle.tta_arch.specs.Legal.{all_slots}
-use Rattle.tta_arch.specs.Rules.{IsMachine, is_file, is_imm, is_guard, is_template}
-use Rattle.tta_arch.specs.Effects.{KeptReg, KeptImm}
 use Rattle.tta_arch.proofs.Sizes.{small_file, small_imm}
-use Rattle.tta_code.specs.declared.code.Move.{Move}
-use Rattle.tta_code.specs.declared.code.Long.{Long}
-use Rattle.tta_code.specs.declared.code.Instruction.{Instruction}
-use Rattle.tta_code.specs.Cycle.{moves_of}
-use Rattle.tta_code.specs.Legal.{ends_of, is_legal}
 use Rattle.tta_code.proofs.LegalParts.{legal_parts}
 use Rattle.tta_sim.specs.Places.{is_place}
 use Rattle.tta_sim.specs.Moves.{is_askable, is_readable, is_reachable, is_possible, is_possible_slot, IsPossible}

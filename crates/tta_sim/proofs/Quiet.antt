@@ -3,10 +3,7 @@ use Rattle.std.proofs.Common.{◌≡◌, ℕ, Bool, true, false, not, ◌||◌, 
 use Rattle.std.specs.Prelude.{fold, option_map, if◌then◌else◌}
 use Rattle.std.specs.List.{find, filter_map, cons_option, list_any}
 use Rattle.std.proofs.lemmas.Bool.{or_parts, or_from, not-true}
-use Rattle.tta_ops.specs.Units.{Units}
-use Rattle.tta_arch.specs.declared.parts.Op.{Op}
-use Rattle.tta_arch.specs.declared.parts.Op.TheVariants.{Ldw, Stw, Ldf, Stf, Out, Take, Set}
-use Rattle.tta_arch.specs.Effects.{Start, store_data, store_frame, takes}
+use Rattle.tta_sim.specs.Cited.{Units, Op, Ldw, Stw, Ldf, Stf, Out, Take, Set, Start, store_data, store_frame, takes}
 use Rattle.tta_sim.specs.declared.decoded.DecodedStart.{DecodedStart}
 use Rattle.tta_sim.specs.declared.decoded.Line.{Line}
 use Rattle.tta_sim.specs.declared.store.Store.{Store}

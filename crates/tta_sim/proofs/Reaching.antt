@@ -1,12 +1,7 @@
 -- A run that goes on, at an address within its code.
 use Rattle.std.proofs.Common.{◌≡◌, ℕ, ◌<◌, ◌^◌, List, length, get_or, Option, Some, sym, ap, ◌∙◌, subst, arith}
-use Rattle.tta_ops.specs.Units.{Units}
-use Rattle.tta_arch.specs.Machine.{Machine}
-use Rattle.tta_arch.specs.Rules.{IsMachine}
-use Rattle.tta_code.specs.declared.code.Code.{Code}
-use Rattle.tta_code.specs.Cycle.{State, carry_out, next as next_state}
-use Rattle.tta_flight.specs.Rings.{Rings}
-use Rattle.tta_list.specs.Input.{IsFed}
+use Rattle.tta_sim.specs.Cited.{Units, Machine, IsMachine, Code, State, carry_out, Rings, IsFed}
+use Rattle.tta_code.specs.Cycle.{next as next_state}
 use Rattle.tta_sim.specs.declared.cycle_step.CycleStep.{CycleStep}
 use Rattle.tta_sim.specs.declared.control.Control.{Control}
 use Rattle.tta_sim.specs.declared.control.Phase.TheVariants as phase

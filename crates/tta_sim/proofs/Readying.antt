@@ -5,11 +5,7 @@ use Rattle.std.specs.List.{list_any, filter_map, AllByRecursion}
 use Rattle.std.proofs.lemmas.List.Elements.{filter_map-append}
 use Rattle.std.proofs.lemmas.List.Folds.{list_any-append}
 use Rattle.std.proofs.lemmas.List.{map-append}
-use Rattle.tta_arch.specs.Machine.{Machine}
-use Rattle.tta_arch.specs.Effects.{Start, write_of, lacks_operand, first_some, is_port, has_unset}
-use Rattle.tta_code.specs.declared.code.Move.{Move}
-use Rattle.tta_code.specs.declared.code.Instruction.{Instruction}
-use Rattle.tta_code.specs.Cycle.{effect_of, moves_of, first_fault}
+use Rattle.tta_sim.specs.Cited.{Machine, Start, write_of, lacks_operand, first_some, is_port, has_unset, Move, Instruction, effect_of, moves_of, first_fault}
 use Rattle.tta_sim.specs.declared.decoded.Line.{Line}
 use Rattle.tta_sim.specs.declared.lines.Write.{Write}
 use Rattle.tta_sim.specs.Results.{Results, shown_by}

@@ -1,6 +1,6 @@
 -- Which numbers the places of a row have.
 use Rattle.std.proofs.Common.{◌≡◌, ◌<◌, ℕ, zero, suc, replicate, Option, None, get_or, refl, arith, IsTrue}
-use Rattle.tta_arch.specs.Effects.{Place, KeptReg, KeptImm, KeptOperand, KeptRa, KeptPort}
+use Rattle.tta_sim.specs.Cited.{Place, KeptReg, KeptImm, KeptOperand, KeptRa, KeptPort}
 use Rattle.tta_sim.specs.Places.{is_place, number_of}
 
 -- each place is within the row

@@ -5,8 +5,7 @@ use Rattle.std.specs.Option.{option_map_or, option_or}
 use Rattle.std.specs.List.{AllByRecursion}
 use Rattle.std.proofs.lemmas.List.Folds.{find-append}
 use Rattle.std.proofs.lemmas.List.Sums.{fold-append}
-use Rattle.tta_code.specs.Cycle.{Result', later}
-use Rattle.tta_flight.specs.Rings.{Rings, shown_in, due_in}
+use Rattle.tta_sim.specs.Cited.{Result', later, Rings, shown_in, due_in}
 use Rattle.tta_sim.specs.Results.{Results, AreResultsOf, latest, is_due, due_at, word_due}
 
 -- ---- the port

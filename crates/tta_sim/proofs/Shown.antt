@@ -4,9 +4,7 @@ use Rattle.std.specs.Prelude.{is_some, nat_lt, nat_le, option_to_list, if◌then
 use Rattle.std.specs.List.{filter_map, cons_option, list_any, AllByRecursion}
 use Rattle.std.proofs.lemmas.Bool.{and_parts, and_from, or_parts, or_from, not-true, ltb-true}
 use Rattle.std.proofs.lemmas.List.Elements.{filter_map-append}
-use Rattle.tta_ops.specs.Units.{Units}
-use Rattle.tta_arch.specs.Rules.{are_different}
-use Rattle.tta_arch.specs.Effects.{Start, has_result, result_word}
+use Rattle.tta_sim.specs.Cited.{Units, are_different, Start, has_result, result_word}
 use Rattle.tta_sim.specs.declared.dues.Due.{Due}
 use Rattle.tta_sim.specs.Results.{Results, longest_by, due_by}
 use Rattle.tta_sim.specs.Starts.{begun, due_of, clashes_with, is_fitting, AreFitting}

@@ -7,19 +7,9 @@ use Rattle.std.proofs.lemmas.Option.{slice_get_within}
 use Rattle.std.proofs.lemmas.List.{append-nil}
 use Rattle.tta_list.proofs.Lists.{list_all_one, any_there}
 use Rattle.tta_arch.specs.declared.parts.Unit.{Unit as OpUnit}
-use Rattle.tta_arch.specs.declared.parts.UnitOp.{UnitOp}
-use Rattle.tta_arch.specs.declared.parts.Op.{Op}
-use Rattle.tta_arch.specs.declared.parts.Op.TheVariants.{Ldw, Stw, Ldf, Stf, Out, Take, Set}
-use Rattle.tta_arch.specs.declared.ends.Dest.{Dest}
+use Rattle.tta_sim.specs.Cited.{UnitOp, Op, Ldw, Stw, Ldf, Stf, Out, Take, Set, Dest, Machine, are_apart, same_place, IsMachine, is_unit, is_unit_op, fits_kind, same_op, is_stream_op, are_different, Start, Reads, op_at, has_result, put_out, moved, takes, takes_in, Move, Instruction, effect_of, ends_of, is_legal}
 use Rattle.tta_arch.specs.declared.ends.Dest.TheVariants as dest
-use Rattle.tta_arch.specs.Machine.{Machine}
-use Rattle.tta_arch.specs.Legal.{are_apart, same_place, ends_of as ends_in}
-use Rattle.tta_arch.specs.Rules.{IsMachine, is_unit, is_unit_op, fits_kind, same_op, is_stream_op, are_different}
-use Rattle.tta_arch.specs.Effects.{Start, Reads, op_at, has_result, put_out, moved, takes, takes_in}
-use Rattle.tta_code.specs.declared.code.Move.{Move}
-use Rattle.tta_code.specs.declared.code.Instruction.{Instruction}
-use Rattle.tta_code.specs.Cycle.{effect_of}
-use Rattle.tta_code.specs.Legal.{ends_of, is_legal}
+use Rattle.tta_arch.specs.Legal.{ends_of as ends_in}
 use Rattle.tta_code.proofs.LegalParts.{legal_parts}
 use Rattle.tta_code.proofs.Apart.{meet_moves, moves_apart}
 use Rattle.tta_sim.specs.Results.{Results, HasUnits, longest_by}

@@ -4,19 +4,9 @@ use Rattle.std.specs.Prelude.{is_none, is_some, option_map, option_to_list, slic
 use Rattle.std.specs.Option.{option_map_or}
 use Rattle.std.specs.List.{list_any, filter_map, AllByRecursion}
 use Rattle.std.proofs.lemmas.List.Folds.{list_any-append}
-use Rattle.tta_arch.specs.declared.ends.GuardRef.{GuardRef}
-use Rattle.tta_arch.specs.declared.ends.Source.{Source}
+use Rattle.tta_sim.specs.Cited.{GuardRef, Source, Dest, Template, UnitOp, Machine, Reads, KeptImm, op_at, Move, Long, Instruction, effect_of, moves_of}
 use Rattle.tta_arch.specs.declared.ends.Source.TheVariants as source
-use Rattle.tta_arch.specs.declared.ends.Dest.{Dest}
 use Rattle.tta_arch.specs.declared.ends.Dest.TheVariants as dest
-use Rattle.tta_arch.specs.declared.parts.Template.{Template}
-use Rattle.tta_arch.specs.declared.parts.UnitOp.{UnitOp}
-use Rattle.tta_arch.specs.Machine.{Machine}
-use Rattle.tta_arch.specs.Effects.{Reads, KeptImm, op_at}
-use Rattle.tta_code.specs.declared.code.Move.{Move}
-use Rattle.tta_code.specs.declared.code.Long.{Long}
-use Rattle.tta_code.specs.declared.code.Instruction.{Instruction}
-use Rattle.tta_code.specs.Cycle.{effect_of, moves_of}
 use Rattle.tta_sim.specs.declared.decoded.DecodedSource.TheVariants as decoded
 use Rattle.tta_sim.specs.declared.decoded.DecodedWrite.{DecodedWrite}
 use Rattle.tta_sim.specs.declared.decoded.DecodedStart.{DecodedStart}

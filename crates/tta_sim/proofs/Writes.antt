@@ -2,9 +2,7 @@
 use Rattle.std.proofs.Common.{◌≡◌, ◌<◌, ◌≤◌, ◌+◌, ◌-◌, ℕ, zero, suc, true, List, [], ◌∷◌, ◌++◌, length, drop, get_or, Option, refl, ap, sym, ◌∙◌, subst, arith}
 use Rattle.std.specs.Prelude.{fold}
 use Rattle.std.proofs.lemmas.List.{drop_more, length-set}
-use Rattle.tta_arch.specs.declared.parts.Op.{Op}
-use Rattle.tta_arch.specs.declared.parts.Op.TheVariants.{Ldw, Stw, Ldf, Stf, Out, Take, Set}
-use Rattle.tta_arch.specs.Effects.{Place, KeptRa, Written, Start, operand_word, store_data, store_frame}
+use Rattle.tta_sim.specs.Cited.{Op, Ldw, Stw, Ldf, Stf, Out, Take, Set, Place, KeptRa, Written, Start, operand_word, store_data, store_frame}
 use Rattle.tta_sim.specs.declared.lines.Write.{Write}
 use Rattle.tta_sim.specs.Places.{HasWritten, is_place, number_of}
 use Rattle.tta_sim.specs.Writing.{numbered, numbered_one, ArePlaces}

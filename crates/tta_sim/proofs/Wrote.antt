@@ -5,13 +5,8 @@ use Rattle.std.specs.Option.{option_map_or, option_or}
 use Rattle.std.specs.List.{filter_map, cons_option, find}
 use Rattle.std.proofs.lemmas.Bool.{ltb-true}
 use Rattle.std.proofs.lemmas.List.Elements.{filter_map-append}
-use Rattle.tta_arch.specs.declared.parts.Template.{Template}
-use Rattle.tta_arch.specs.declared.parts.UnitOp.{UnitOp}
-use Rattle.tta_arch.specs.declared.ends.Dest.{Dest}
+use Rattle.tta_sim.specs.Cited.{Template, UnitOp, Dest, Machine, Imm, KeptImm, KeptOperand, Written, Brought, Start, kept, write_of, start_of, op_at, Long}
 use Rattle.tta_arch.specs.declared.ends.Dest.TheVariants as dest
-use Rattle.tta_arch.specs.Machine.{Machine}
-use Rattle.tta_arch.specs.Effects.{Imm, KeptImm, KeptOperand, Written, Brought, Start, kept, write_of, start_of, op_at}
-use Rattle.tta_code.specs.declared.code.Long.{Long}
 use Rattle.tta_sim.specs.Places.{word_at}
 use Rattle.tta_sim.specs.Moves.{Arrival, is_reachable, brought_of}
 use Rattle.tta_sim.specs.Starts.{is_operand_of, operand_with, start_by, starts_of, AreReachable}

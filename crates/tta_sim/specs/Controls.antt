@@ -1,7 +1,7 @@
 -- Control, as it is kept.
 use Rattle.std.specs.Prelude.{ℕ, ◌+◌, Option, None, Some, option_map}
-use Rattle.tta_arch.specs.Effects.{Kind}
-use Rattle.tta_code.specs.Cycle.{Pending as Underway, Outcome, Running, Halted, Fault, State}
+use Rattle.tta_sim.specs.Cited.{Kind, Outcome, Halted, Fault, State}
+use Rattle.tta_code.specs.Cycle.{Pending as Underway, Running}
 use Rattle.tta_sim.specs.declared.control.Pending.{Pending}
 use Rattle.tta_sim.specs.declared.control.Phase.{Phase}
 use Rattle.tta_sim.specs.declared.control.Phase.TheVariants as phase

@@ -1,19 +1,9 @@
 -- Instructions in the form in which they are carried out.
 use Rattle.std.specs.Prelude.{◌≡◌, ℕ, ◌+◌, ◌==◌, Bool, true, false, not, ◌&&◌, List, [], ◌∷◌, ◌++◌, Option, None, Some, is_some, option_map, option_to_list, option_and_then, length, slice_get}
 use Rattle.std.specs.List.{filter_map, list_any}
-use Rattle.tta_arch.specs.declared.ends.GuardRef.{GuardRef}
-use Rattle.tta_arch.specs.declared.ends.Source.{Source}
+use Rattle.tta_sim.specs.Cited.{GuardRef, Source, Dest, Machine, IsMachine, KeptReg, KeptImm, KeptOperand, KeptRa, width_of, op_at, Move, Long, Instruction, moves_of, is_legal}
 use Rattle.tta_arch.specs.declared.ends.Source.TheVariants as source
-use Rattle.tta_arch.specs.declared.ends.Dest.{Dest}
 use Rattle.tta_arch.specs.declared.ends.Dest.TheVariants as dest
-use Rattle.tta_arch.specs.Machine.{Machine}
-use Rattle.tta_arch.specs.Rules.{IsMachine}
-use Rattle.tta_arch.specs.Effects.{KeptReg, KeptImm, KeptOperand, KeptRa, width_of, op_at}
-use Rattle.tta_code.specs.declared.code.Move.{Move}
-use Rattle.tta_code.specs.declared.code.Long.{Long}
-use Rattle.tta_code.specs.declared.code.Instruction.{Instruction}
-use Rattle.tta_code.specs.Cycle.{moves_of}
-use Rattle.tta_code.specs.Legal.{is_legal}
 use Rattle.tta_sim.specs.declared.control.ControlKind.TheVariants as control_kind
 use Rattle.tta_sim.specs.declared.decoded.DecodedSource.{DecodedSource}
 use Rattle.tta_sim.specs.declared.decoded.DecodedSource.TheVariants as decoded

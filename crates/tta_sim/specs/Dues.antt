@@ -1,11 +1,7 @@
 -- The results that operations show.
 use Rattle.std.specs.Prelude.{◌≡◌, ℕ, ◌+◌, ◌-◌, ◌<◌, ◌≤◌, ◌==◌, true, false, if◌then◌else◌, List, Option, None, Some, is_some, length}
 use Rattle.std.specs.List.{list_any, AllByRecursion}
-use Rattle.tta_ops.specs.Units.{Units}
-use Rattle.tta_arch.specs.Rules.{are_different}
-use Rattle.tta_arch.specs.Effects.{Start, has_result, result_word}
-use Rattle.tta_code.specs.Cycle.{Result'}
-use Rattle.tta_flight.specs.Rings.{Rings, due_in, longest_of, IsStarted}
+use Rattle.tta_sim.specs.Cited.{Units, are_different, Start, has_result, result_word, Result', Rings, due_in, longest_of, IsStarted}
 use Rattle.tta_sim.specs.declared.dues.Due.{Due}
 use Rattle.tta_sim.specs.declared.store.Store.{Store}
 use Rattle.tta_sim.specs.Results.{Results, due_after, due_by, longest_by}

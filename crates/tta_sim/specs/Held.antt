@@ -1,12 +1,8 @@
 -- What a simulator holds, and which state it stands for.
 use Rattle.std.specs.Prelude.{◌≡◌, ℕ, ◌+◌, ◌≤◌, Bool, true, false, List, ◌++◌, length, Option, None, Some, option_to_list, slice_get}
 use Rattle.std.specs.Option.{option_map_or}
-use Rattle.tta_list.specs.Input.{left}
-use Rattle.tta_ops.specs.Units.{Units}
-use Rattle.tta_arch.specs.Machine.{Machine}
-use Rattle.tta_code.specs.declared.code.Code.{Code}
-use Rattle.tta_code.specs.Legal.{IsLegalCode}
-use Rattle.tta_code.specs.Cycle.{Pending, Outcome, Running, Halted, Waiting, Fault, State, next}
+use Rattle.tta_sim.specs.Cited.{left, Units, Machine, Code, IsLegalCode, Outcome, Halted, Waiting, Fault, State, next, Ring, Marked, Rings, rings_of}
+use Rattle.tta_code.specs.Cycle.{Pending, Running}
 use Rattle.tta_sim.specs.declared.cycle_step.CycleStep.{CycleStep}
 use Rattle.tta_sim.specs.declared.cycle_step.CycleStep.TheVariants.{Ran, Halted as HadHalted, Waiting as Waits, Fault as Faults}
 use Rattle.tta_sim.specs.declared.decoded.Line.{Line}
@@ -15,9 +11,6 @@ use Rattle.tta_sim.specs.declared.ending.Ending.TheVariants as ending
 use Rattle.tta_sim.specs.Decoded.{lines_from}
 use Rattle.tta_sim.specs.Places.{HasWritten}
 use Rattle.tta_sim.specs.Results.{Results, AreResultsOf, HasUnits}
-use Rattle.tta_flight.specs.declared.ring.Ring.{Ring}
-use Rattle.tta_flight.specs.declared.marked.Marked.{Marked}
-use Rattle.tta_flight.specs.Rings.{Rings, rings_of}
 
 -- What a run holds but for its results: the code, decoded; the words of registers and operand ports in a row; the spaces; the
 -- address of the next instruction, how many cycles were made, the control move under way, and how the run stands. The

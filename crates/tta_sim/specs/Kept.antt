@@ -1,10 +1,6 @@
 -- How a run is kept, and what a cycle of it comes to.
 use Rattle.std.specs.Prelude.{◌≡◌, ℕ, ◌+◌, ◌<◌, ◌^◌, ◌++◌, List, length, Option, Some, is_none, Bool, true, false, not, ◌&&◌, option_map, option_to_list}
-use Rattle.tta_ops.specs.Units.{Units}
-use Rattle.tta_arch.specs.Machine.{Machine}
-use Rattle.tta_code.specs.declared.code.Instruction.{Instruction}
-use Rattle.tta_code.specs.Cycle.{State, Waiting, Fault, carry_out}
-use Rattle.tta_flight.specs.Rings.{Rings}
+use Rattle.tta_sim.specs.Cited.{Units, Machine, Instruction, State, Waiting, Fault, carry_out, Rings, IsFed, left}
 use Rattle.tta_sim.specs.declared.cycle_step.CycleStep.{CycleStep}
 use Rattle.tta_sim.specs.declared.cycle_step.CycleStep.TheVariants.{Ran, Halted as HadHalted, Waiting as Waits, Fault as Faults}
 use Rattle.tta_sim.specs.declared.decoded.Line.{Line}
@@ -12,7 +8,6 @@ use Rattle.tta_sim.specs.declared.store.Store.{Store}
 use Rattle.tta_sim.specs.declared.control.Control.{Control}
 use Rattle.tta_sim.specs.declared.control.Phase.TheVariants.{Running}
 use Rattle.tta_sim.specs.declared.results.Part.{Part}
-use Rattle.tta_list.specs.Input.{IsFed, left}
 use Rattle.tta_sim.specs.Held.{HeldState, StandsWith, GoesWith, is_fault, has_taken, cycles_of}
 use Rattle.tta_sim.specs.Results.{Results, AreThere, results_at}
 use Rattle.tta_sim.specs.Decoded.{IsDecoded}

@@ -1,3 +1,4 @@
+pub mod Cited
 pub mod Controls
 pub mod Decoded
 pub mod Dues

@@ -2,7 +2,7 @@
 use Rattle.std.specs.Prelude.{◌≡◌, ℕ, ◌≤◌, ◌%◌, ◌==◌, Bool, true, false, not, ◌&&◌, ◌||◌, nat_lt, if◌then◌else◌, List, Option, None, Some, is_none, is_some, option_map, option_to_list, length, slice_index_or, IsTrue}
 use Rattle.std.specs.Option.{option_map_or, option_or}
 use Rattle.std.specs.List.{list_any, filter_map, find, AllByRecursion}
-use Rattle.tta_arch.specs.Effects.{Kind, KeptOperand, Start, first_some}
+use Rattle.tta_sim.specs.Cited.{Kind, KeptOperand, Start, first_some}
 use Rattle.tta_sim.specs.declared.decoded.DecodedSource.{DecodedSource}
 use Rattle.tta_sim.specs.declared.decoded.DecodedSource.TheVariants as decoded
 use Rattle.tta_sim.specs.declared.decoded.DecodedGuard.{DecodedGuard}

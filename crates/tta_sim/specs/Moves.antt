@@ -2,16 +2,9 @@
 use Rattle.std.specs.Prelude.{ℕ, ◌≤◌, Bool, true, ◌&&◌, ◌||◌, nat_lt, List, map, Option, Some, option_map, length, IsTrue}
 use Rattle.std.specs.Option.{option_map_or}
 use Rattle.std.specs.List.{filter_map, AllByRecursion}
-use Rattle.tta_arch.specs.declared.ends.GuardRef.{GuardRef}
-use Rattle.tta_arch.specs.declared.ends.Source.{Source}
+use Rattle.tta_sim.specs.Cited.{GuardRef, Source, Dest, KeptReg, KeptImm, KeptOperand, KeptRa, Effect, Brought, Reads, target_of, moved, is_register, has_unset_guard, has_unset, Machine, Move, Instruction, effect_of}
 use Rattle.tta_arch.specs.declared.ends.Source.TheVariants as source
-use Rattle.tta_arch.specs.declared.ends.Dest.{Dest}
 use Rattle.tta_arch.specs.declared.ends.Dest.TheVariants as dest
-use Rattle.tta_arch.specs.Effects.{KeptReg, KeptImm, KeptOperand, KeptRa, Effect, Brought, Reads, target_of, moved, is_register, has_unset_guard, has_unset}
-use Rattle.tta_arch.specs.Machine.{Machine}
-use Rattle.tta_code.specs.declared.code.Move.{Move}
-use Rattle.tta_code.specs.declared.code.Instruction.{Instruction}
-use Rattle.tta_code.specs.Cycle.{effect_of}
 use Rattle.tta_sim.specs.Places.{is_place, word_at}
 
 -- ---- which moves a run can make

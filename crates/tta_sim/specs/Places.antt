@@ -1,6 +1,6 @@
 -- Where the words of registers and operand ports are kept.
 use Rattle.std.specs.Prelude.{◌≡◌, ℕ, ◌+◌, ◌*◌, Bool, true, false, ◌&&◌, nat_lt, List, Option, None, slice_index_or, IsTrue}
-use Rattle.tta_arch.specs.Effects.{Place, KeptReg, KeptImm, KeptOperand, KeptRa, KeptPort, Written, kept}
+use Rattle.tta_sim.specs.Cited.{Place, KeptReg, KeptImm, KeptOperand, KeptRa, KeptPort, Written, kept}
 
 -- a place that a machine can have: one of the 64 registers of 8 files, one of the 16 registers of 4 immediate units,
 -- the operand port of one of 32 units, or the return address

@@ -1,9 +1,7 @@
 -- What a line leaves that can be carried out.
 use Rattle.std.specs.Prelude.{◌≡◌, ℕ, ◌+◌, false, List, ◌++◌, Option}
 use Rattle.std.specs.List.{filter_map, list_any}
-use Rattle.tta_ops.specs.Units.{Units}
-use Rattle.tta_arch.specs.Effects.{Start}
-use Rattle.tta_code.specs.Cycle.{Result'}
+use Rattle.tta_sim.specs.Cited.{Units, Start, Result', Rings, StayBeside}
 use Rattle.tta_sim.specs.declared.decoded.DecodedStart.{DecodedStart}
 use Rattle.tta_sim.specs.declared.decoded.Line.{Line}
 use Rattle.tta_sim.specs.declared.lines.Write.{Write}
@@ -12,8 +10,6 @@ use Rattle.tta_sim.specs.declared.store.CycleBuffers.{CycleBuffers}
 use Rattle.tta_sim.specs.Lines.{is_unread, write_brought, start_brought, operand_in}
 use Rattle.tta_sim.specs.Results.{Results, shown_by, AreResultsOf, AreKept}
 use Rattle.tta_sim.specs.declared.results.Part.{Part}
-use Rattle.tta_flight.specs.Rings.{Rings}
-use Rattle.tta_flight.specs.Flight.{StayBeside}
 use Rattle.tta_sim.specs.Starts.{begun, clashes_with, AreFitting}
 use Rattle.tta_sim.specs.Dues.{shown_from}
 

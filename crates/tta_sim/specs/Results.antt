@@ -1,10 +1,7 @@
 -- The results of units: those that show, and those that are still to come.
 use Rattle.std.specs.Prelude.{◌≡◌, ℕ, ◌+◌, ◌<◌, ◌≤◌, ◌==◌, Bool, ◌&&◌, List, length, fold, Option, None, option_map, IfSome}
 use Rattle.std.specs.List.{find}
-use Rattle.tta_arch.specs.Machine.{Machine}
-use Rattle.tta_arch.specs.Effects.{op_at}
-use Rattle.tta_code.specs.Cycle.{Result', later}
-use Rattle.tta_flight.specs.Rings.{Rings, shown_in, due_in, longest_of}
+use Rattle.tta_sim.specs.Cited.{Machine, op_at, Result', later, Rings, shown_in, due_in, longest_of}
 use Rattle.tta_sim.specs.declared.results.Part.{Part}
 
 -- the latest result of a unit that is due by now

@@ -2,17 +2,8 @@
 use Rattle.std.specs.Prelude.{◌≡◌, ℕ, ◌==◌, Bool, true, false, not, ◌&&◌, ◌||◌, nat_lt, nat_le, if◌then◌else◌, List, [], ◌∷◌, map, Option, None, Some, is_some, option_map, IsTrue}
 use Rattle.std.specs.Option.{option_or}
 use Rattle.std.specs.List.{list_any, filter_map, find, AllByRecursion}
-use Rattle.tta_ops.specs.Units.{Units}
-use Rattle.tta_arch.specs.declared.parts.Op.{Op}
-use Rattle.tta_arch.specs.declared.parts.Op.TheVariants.{Out}
-use Rattle.tta_arch.specs.declared.parts.UnitOp.{UnitOp}
-use Rattle.tta_arch.specs.declared.ends.Dest.{Dest}
+use Rattle.tta_sim.specs.Cited.{Units, Op, Out, UnitOp, Dest, Machine, are_different, same_op, KeptOperand, Start, Kind, Jumps, Calls, Halts, op_at, has_result, takes_in, result_word, lacks_operand, first_some, control_of, is_port, has_unset, Result', first_fault, Move}
 use Rattle.tta_arch.specs.declared.ends.Dest.TheVariants as dest
-use Rattle.tta_arch.specs.Machine.{Machine}
-use Rattle.tta_arch.specs.Rules.{are_different, same_op}
-use Rattle.tta_arch.specs.Effects.{KeptOperand, Start, Kind, Jumps, Calls, Halts, op_at, has_result, takes_in, result_word, lacks_operand, first_some, control_of, is_port, has_unset}
-use Rattle.tta_code.specs.Cycle.{Result', first_fault}
-use Rattle.tta_code.specs.declared.code.Move.{Move}
 use Rattle.tta_sim.specs.declared.control.ControlMove.{ControlMove}
 use Rattle.tta_sim.specs.declared.control.ControlKind.{ControlKind}
 use Rattle.tta_sim.specs.declared.control.ControlKind.TheVariants as control_kind

@@ -1,9 +1,7 @@
 -- Which words that a decoded instruction reads were never written.
 use Rattle.std.specs.Prelude.{◌≡◌, ℕ, Bool, true, false, ◌&&◌, ◌||◌, List, Option, None, is_none, length, slice_index_or}
 use Rattle.std.specs.Option.{option_map_or}
-use Rattle.tta_arch.specs.Machine.{Machine}
-use Rattle.tta_arch.specs.Effects.{Reads, Effect, has_unset, is_port}
-use Rattle.tta_code.specs.declared.code.Instruction.{Instruction}
+use Rattle.tta_sim.specs.Cited.{Machine, Reads, Effect, has_unset, is_port, Instruction}
 use Rattle.tta_sim.specs.Decoded.{IsDecoded}
 use Rattle.tta_sim.specs.Moves.{lacks_register}
 use Rattle.tta_sim.specs.declared.decoded.DecodedSource.{DecodedSource}

@@ -5,9 +5,7 @@ use Rattle.std.specs.Option.{option_map_or}
 use Rattle.std.proofs.lemmas.Option.{slice_get_within}
 use Rattle.tta_list.proofs.Lists.{slice_get-push, some_within}
 use Rattle.tta_list.proofs.Tests.{some_same}
-use Rattle.tta_program.specs.declared.program.Proc.{Proc}
-use Rattle.tta_program.specs.Program.{Program}
-use Rattle.tta_alloc.specs.declared.interval.Interval.{Interval}
+use Rattle.tta_stages.specs.Cited.{Proc, Program, Interval}
 use Rattle.tta_stages.specs.declared.intervals.Intervals.{Intervals}
 use Rattle.tta_stages.specs.Intervals.{interval_of, AreIntervalsOf, AreIntervals, IsIntervalOf}
 

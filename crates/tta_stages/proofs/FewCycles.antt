@@ -1,16 +1,8 @@
 -- The code of a program has few cycles.
 use Rattle.std.proofs.Common.{◌≤◌, ◌<◌, ◌^◌, List, sym, subst, arith}
 use Rattle.std.proofs.Math.Pow.{pow_mono}
-use Rattle.tta_ops.specs.Units.{Units}
-use Rattle.tta_arch.specs.Machine.{Machine}
-use Rattle.tta_arch.specs.Rules.{IsMachine}
+use Rattle.tta_stages.specs.Cited.{Units, Machine, IsMachine, Program, Code, IsLegalCode, Placed, total_length, IsLinked}
 use Rattle.tta_arch.proofs.Facts.{address_most}
-use Rattle.tta_program.specs.Program.{Program}
-use Rattle.tta_code.specs.declared.code.Code.{Code}
-use Rattle.tta_code.specs.Legal.{IsLegalCode}
-use Rattle.tta_moves.specs.declared.items.Placed.{Placed}
-use Rattle.tta_link.specs.Blocks.{total_length}
-use Rattle.tta_link.specs.Linked.{IsLinked}
 use Rattle.tta_link.proofs.Whole.{linked_length}
 use Rattle.tta_build.proofs.Compiling.{compiled_linked}
 use Rattle.tta_stages.specs.declared.stages.Stages.{Stages}

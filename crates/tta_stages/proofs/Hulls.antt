@@ -6,15 +6,7 @@ use Rattle.std.proofs.lemmas.Bool.{eq-eqb, eqb-true, or_cases, ltb-true, ltb-fal
 use Rattle.std.proofs.lemmas.List.{take_all}
 use Rattle.std.proofs.lemmas.List.Folds.{list_any_more, list_any_at}
 use Rattle.std.proofs.Math.Bool.{or-true}
-use Rattle.tta_program.specs.declared.program.Proc.{Proc}
-use Rattle.tta_flow.specs.declared.live.Live.{Live}
-use Rattle.tta_flow.specs.Live.{live_before}
-use Rattle.tta_flow.specs.Paths.{Reached, Begin, Onward, LiveBefore, ReadHere, ReadLater, LiveAfter}
-use Rattle.tta_flow.specs.Search.{is_found}
-use Rattle.tta_flow.specs.Steps.{assigns_at}
-use Rattle.tta_alloc.specs.declared.interval.Interval.{Interval}
-use Rattle.tta_alloc.specs.Intervals.{Counts, IsParam, IsLiveAtEntry, IsRead, IsAssigned, IsLiveBefore, IsLiveAfter}
-use Rattle.tta_alloc.specs.Known.{Known}
+use Rattle.tta_stages.specs.Cited.{Proc, Live, live_before, Reached, Begin, Onward, LiveBefore, ReadHere, ReadLater, LiveAfter, is_found, assigns_at, Interval, Counts, IsParam, IsLiveAtEntry, IsRead, IsAssigned, IsLiveBefore, IsLiveAfter, Known}
 use Rattle.tta_stages.specs.Intervals.{entry_counts, step_counts, widened, AreAtEntry, Widens, IsIntervalOf, AreIntervalsOf}
 
 -- ---- one position more

@@ -1,9 +1,7 @@
 -- The variables of procedures, one after another.
 use Rattle.std.proofs.Common.{◌≡◌, ◌<◌, ℕ, ◌+◌, List, ◌∷◌, ◌++◌, drop, length, get_or, sym, ap, ◌∙◌}
 use Rattle.std.proofs.lemmas.List.{append_assoc, drop_more}
-use Rattle.tta_arch.specs.Machine.{Machine}
-use Rattle.tta_program.specs.declared.program.Proc.{Proc}
-use Rattle.tta_program.specs.Program.{Program}
+use Rattle.tta_stages.specs.Cited.{Machine, Proc, Program}
 use Rattle.tta_stages.specs.declared.lowered.Lowered.{Lowered}
 use Rattle.tta_stages.specs.ProgramText.{own_slots, proc_variables_text, variables_from}
 

@@ -1,13 +1,7 @@
 -- The intervals of the variables of a program.
 use Rattle.std.specs.Prelude.{◌≡◌, ℕ, ◌<◌, nat_lt, min, max, Bool, true, false, ◌||◌, List, length, get_or, Option, Some, None, slice_get}
 use Rattle.std.specs.Option.{option_map_or, MatchOption}
-use Rattle.tta_program.specs.declared.program.Proc.{Proc}
-use Rattle.tta_program.specs.Program.{Program}
-use Rattle.tta_flow.specs.declared.live.Live.{Live}
-use Rattle.tta_flow.specs.Live.{live_before}
-use Rattle.tta_flow.specs.Steps.{assigns_at}
-use Rattle.tta_alloc.specs.declared.interval.Interval.{Interval}
-use Rattle.tta_alloc.specs.Intervals.{Counts, IsInterval}
+use Rattle.tta_stages.specs.Cited.{Proc, Program, Live, live_before, assigns_at, Interval, Counts, IsInterval}
 use Rattle.tta_stages.specs.declared.intervals.Intervals.{Intervals}
 
 -- ---- the intervals

@@ -1,3 +1,4 @@
+pub mod Cited
 pub mod Intervals
 pub mod Stages
 pub mod Words

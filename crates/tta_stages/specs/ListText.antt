@@ -2,32 +2,8 @@
 use Rattle.std.specs.Prelude.{ℕ, ◌+◌, List, [], ◌++◌, Option, None, slice_get, length, codes}
 use Rattle.std.specs.Option.{option_map_or}
 use Rattle.std.specs.List.{flat_map, enumerate_from}
-use Rattle.tta_ops.specs.Units.{Units}
-use Rattle.tta_arch.specs.declared.ends.GuardRef.{GuardRef}
-use Rattle.tta_arch.specs.declared.ends.Source.TheVariants.{Value}
-use Rattle.tta_arch.specs.declared.ends.Dest.{Dest}
-use Rattle.tta_arch.specs.Fields.{numbers}
-use Rattle.tta_arch.specs.Machine.{Machine}
-use Rattle.tta_program.specs.Program.{Program}
-use Rattle.tta_code.specs.declared.code.Instruction.{Instruction}
-use Rattle.tta_moves.specs.declared.items.Item.{Item}
-use Rattle.tta_moves.specs.declared.items.Item.TheVariants.{Move, Long}
-use Rattle.tta_moves.specs.declared.items.ItemSource.{ItemSource}
-use Rattle.tta_moves.specs.declared.items.ItemSource.TheVariants.{Port, Address}
-use Rattle.tta_moves.specs.declared.items.LongValue.{LongValue}
+use Rattle.tta_stages.specs.Cited.{Units, GuardRef, Value, Dest, numbers, Machine, Program, Instruction, Item, Move, Long, ItemSource, Port, Address, LongValue, BlockList, Placed, Part, imm_name, place_text, guard_text, move_text, instruction_text, Order, Items, Groups, Passed, Ordered, Round, Rounds, Start, Trail}
 use Rattle.tta_moves.specs.declared.items.LongValue.TheVariants as long
-use Rattle.tta_moves.specs.declared.items.BlockList.{BlockList}
-use Rattle.tta_moves.specs.declared.items.Placed.{Placed}
-use Rattle.tta_lower.specs.declared.part.Part.{Part}
-use Rattle.tta_asm.specs.Canonical.{imm_name, place_text, guard_text, move_text, instruction_text}
-use Rattle.tta_build.specs.declared.trail.Order.{Order}
-use Rattle.tta_build.specs.declared.trail.Order.TheVariants.{Items, Groups}
-use Rattle.tta_optim.specs.declared.together.Passed.{Passed}
-use Rattle.tta_build.specs.declared.trail.Ordered.{Ordered}
-use Rattle.tta_build.specs.declared.trail.Round.{Round}
-use Rattle.tta_build.specs.declared.trail.Rounds.{Rounds}
-use Rattle.tta_build.specs.declared.trail.Start.{Start}
-use Rattle.tta_build.specs.declared.trail.Trail.{Trail}
 use Rattle.tta_stages.specs.Words.{count_text, pairs_text}
 use Rattle.tta_stages.specs.RegisterText.{named_text, range_text}
 

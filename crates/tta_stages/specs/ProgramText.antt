@@ -2,20 +2,8 @@
 use Rattle.std.specs.Prelude.{ℕ, ◌+◌, ◌-◌, ◌==◌, if◌then◌else◌, List, [], ◌∷◌, ◌++◌, Option, Some, None, slice_get, slice_index, codes}
 use Rattle.std.specs.Option.{option_map_or}
 use Rattle.std.specs.List.{flat_map, enumerate_from}
-use Rattle.tta_ops.specs.Units.{Units}
-use Rattle.tta_arch.specs.Fields.{numbers}
-use Rattle.tta_arch.specs.Machine.{Machine}
-use Rattle.tta_program.specs.declared.step.Step.{Step}
-use Rattle.tta_program.specs.declared.program.Proc.{Proc}
-use Rattle.tta_program.specs.Program.{Program}
-use Rattle.tta_flow.specs.declared.flow.Block.{Block}
-use Rattle.tta_flow.specs.declared.live.Live.{Live}
-use Rattle.tta_flow.specs.Live.{live_before, live_after}
-use Rattle.tta_alloc.specs.declared.home.Home.{Home}
-use Rattle.tta_alloc.specs.declared.home.Home.TheVariants.{Reg, Slot}
-use Rattle.tta_alloc.specs.declared.interval.Interval.{Interval}
-use Rattle.tta_alloc.specs.Homes.{home_of}
-use Rattle.tta_printed.specs.Printed.{Words, proc_name, line_text, step_line}
+use Rattle.tta_stages.specs.Cited.{Units, numbers, Machine, Step, Proc, Program, Block, Live, live_before, live_after, Home, Slot, Interval, home_of, Words, proc_name, line_text, step_line}
+use Rattle.tta_alloc.specs.declared.home.Home.TheVariants.{Reg}
 use Rattle.tta_stages.specs.declared.lowered.Lowered.{Lowered}
 use Rattle.tta_stages.specs.Intervals.{interval_of}
 use Rattle.tta_stages.specs.Words.{count_text, var_if, home_text}

@@ -2,15 +2,7 @@
 use Rattle.std.specs.Prelude.{ℕ, List, [], ◌++◌, slice_get, codes}
 use Rattle.std.specs.Option.{option_map_or}
 use Rattle.std.specs.List.{flat_map, enumerate_from}
-use Rattle.tta_ops.specs.Units.{Units}
-use Rattle.tta_arch.specs.Machine.{Machine}
-use Rattle.tta_program.specs.Program.{Program}
-use Rattle.tta_rcode.specs.declared.code.RBlock.{RBlock}
-use Rattle.tta_moves.specs.declared.items.Placed.{Placed}
-use Rattle.tta_flow.specs.declared.flow.Block.{Block}
-use Rattle.tta_lower.specs.declared.part.Part.{Part}
-use Rattle.tta_lower.specs.declared.part.Part.TheVariants.{Entry, Steps, Returned}
-use Rattle.tta_printed.specs.Printed.{proc_name}
+use Rattle.tta_stages.specs.Cited.{Units, Machine, Program, RBlock, Placed, Block, Part, Entry, Steps, Returned, proc_name}
 use Rattle.tta_stages.specs.Words.{count_text, block_name, home_text}
 use Rattle.tta_stages.specs.ProgramText.{line_at}
 use Rattle.tta_stages.specs.StepText.{steps_text, exit_text}

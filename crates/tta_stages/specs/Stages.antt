@@ -1,15 +1,7 @@
 -- The stages of a program on the way to code for a machine.
 use Rattle.std.specs.Prelude.{◌≡◌, Vec}
 use Rattle.std.specs.Global.{Global}
-use Rattle.tta_ops.specs.Units.{Units}
-use Rattle.tta_arch.specs.Machine.{Machine}
-use Rattle.tta_program.specs.Program.{Program}
-use Rattle.tta_lower.specs.declared.part.Part.{Part}
-use Rattle.tta_lower.specs.Known.{first_by}
-use Rattle.tta_lower.specs.Lower.{parts}
-use Rattle.tta_build.specs.declared.value.Compiled.{Compiled}
-use Rattle.tta_build.specs.Value.{IsCompiled}
-use Rattle.tta_build.specs.Parts.{IsCodeFor}
+use Rattle.tta_stages.specs.Cited.{Units, Machine, Program, Part, first_by, parts, Compiled, IsCompiled, IsCodeFor}
 use Rattle.tta_stages.specs.declared.intervals.Intervals.{Intervals}
 use Rattle.tta_stages.specs.declared.stages.Stages.{Stages}
 use Rattle.tta_stages.specs.Intervals.{AreIntervals}

@@ -1,19 +1,9 @@
 -- The text of the steps of register code.
 use Rattle.std.specs.Prelude.{ℕ, List, ◌++◌, codes}
 use Rattle.std.specs.List.{flat_map}
-use Rattle.tta_ops.specs.declared.OpId.{OpId}
-use Rattle.tta_ops.specs.Units.{Units}
-use Rattle.tta_arch.specs.declared.parts.Op.TheVariants.{Set}
-use Rattle.tta_arch.specs.Machine.{Machine}
-use Rattle.tta_program.specs.declared.operand.Rel.{Rel}
-use Rattle.tta_rcode.specs.declared.code.Place.{Place}
-use Rattle.tta_rcode.specs.declared.code.RSrc.{RSrc}
-use Rattle.tta_rcode.specs.declared.code.RStep.{RStep}
+use Rattle.tta_stages.specs.Cited.{OpId, Units, Set, Machine, Rel, Place, RSrc, RStep, Exit, op_name, rel_name}
 use Rattle.tta_rcode.specs.declared.code.RStep.TheVariants as step
-use Rattle.tta_rcode.specs.declared.code.Exit.{Exit}
 use Rattle.tta_rcode.specs.declared.code.Exit.TheVariants as exit
-use Rattle.tta_asm.specs.Parts.{op_name}
-use Rattle.tta_printed.specs.Printed.{rel_name}
 use Rattle.tta_stages.specs.Words.{count_text, block_name, kept_text, operand_text}
 
 -- ---- parts of a line

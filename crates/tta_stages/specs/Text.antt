@@ -1,11 +1,7 @@
 -- What is told of the stages of a program.
 use Rattle.std.specs.Prelude.{ℕ, List, [], ◌++◌, Option, codes}
 use Rattle.std.specs.Option.{option_map_or}
-use Rattle.tta_ops.specs.Units.{Units}
-use Rattle.tta_arch.specs.Machine.{Machine}
-use Rattle.tta_connect.specs.declared.choice.Choice.{Choice}
-use Rattle.tta_program.specs.Program.{Program}
-use Rattle.tta_link.specs.Linked.{starts_from}
+use Rattle.tta_stages.specs.Cited.{Units, Machine, Choice, Program, starts_from}
 use Rattle.tta_stages.specs.declared.stages.Stages.{Stages}
 use Rattle.tta_stages.specs.ProgramText.{program_text, variables_from}
 use Rattle.tta_stages.specs.RegisterText.{register_text}

@@ -2,12 +2,8 @@
 use Rattle.std.specs.Prelude.{ℕ, Bool, if◌then◌else◌, List, [], ◌++◌, slice_get, codes, decimal}
 use Rattle.std.specs.Option.{option_map_or}
 use Rattle.std.specs.List.{flat_map}
-use Rattle.tta_arch.specs.Machine.{Machine}
-use Rattle.tta_rcode.specs.declared.code.Place.{Place}
-use Rattle.tta_rcode.specs.declared.code.Place.TheVariants.{Reg, Frame}
-use Rattle.tta_rcode.specs.declared.code.RSrc.{RSrc}
-use Rattle.tta_rcode.specs.declared.code.RSrc.TheVariants.{At, Word}
-use Rattle.tta_asm.specs.Canonical.{file_name, place_text}
+use Rattle.tta_stages.specs.Cited.{Machine, Place, Frame, RSrc, At, Word, file_name, place_text}
+use Rattle.tta_rcode.specs.declared.code.Place.TheVariants.{Reg}
 
 -- a number, and what it counts before it
 abbrev pub count_text : (what : List ℕ) → ℕ → List ℕ

@@ -7,7 +7,7 @@ use Rattle.std.specs.Cmp.Lexicographic.{nat_list_eq_equiv}
 use Rattle.std.proofs.lemmas.Bool.{ltb-false}
 use Rattle.std.proofs.lemmas.Option.{slice_get_within}
 use Rattle.tta_list.proofs.Tests.{none_from_is_some}
-use Rattle.tta_reading.specs.Names.{named_in}
+use Rattle.tta_tac.specs.Cited.{named_in}
 use Rattle.tta_tac.specs.Draft.{ProcDraft, Draft}
 use Rattle.tta_tac.specs.Kept.{IsOpen, all_procs, IsKept}
 use Rattle.tta_tac.specs.FirstPass.{fresh, with_fresh}

@@ -6,10 +6,7 @@ use Rattle.std.specs.Option.{option_map_or}
 use Rattle.std.proofs.lemmas.Bool.{leb-true}
 use Rattle.std.proofs.lemmas.Option.{slice_get_read, slice_get_within, slice_get-get_or, get_or_from_slice_get}
 use Rattle.tta_list.proofs.Tests.{and_left, and_right}
-use Rattle.tta_program.specs.declared.step.Step.{Step}
-use Rattle.tta_program.specs.declared.step.Step.TheVariants.{Invoke}
-use Rattle.tta_program.specs.declared.program.Proc.{Proc}
-use Rattle.tta_program.specs.Rules.{calls, calls_proc, Reaches, ByCall, ByMore}
+use Rattle.tta_tac.specs.Cited.{Step, Invoke, Proc, calls, calls_proc, Reaches, ByCall, ByMore}
 use Rattle.tta_tac.specs.Text.{with_main}
 use Rattle.tta_tac.specs.Cycles.{AreLevel, passes, is_found}
 

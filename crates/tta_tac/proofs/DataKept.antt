@@ -4,9 +4,8 @@ use Rattle.std.specs.Prelude.{◌&&◌, ◌||◌, ◌==◌, nat_lt, ◌^◌}
 use Rattle.std.specs.List.{list_all, list_any}
 use Rattle.std.proofs.lemmas.Bool.{and_from, and_parts, or_parts}
 use Rattle.std.proofs.lemmas.List.Folds.{list_all-append, list_any-append}
-use Rattle.tta_program.specs.declared.program.DataLine.{DataLine}
+use Rattle.tta_tac.specs.Cited.{DataLine, is_datum, are_apart}
 use Rattle.tta_tac.specs.Draft.{Draft}
-use Rattle.tta_program.specs.Rules.{is_datum, are_apart}
 use Rattle.tta_tac.specs.Kept.{IsKept}
 use Rattle.tta_tac.specs.FirstPass.{has_address, with_datum}
 use Rattle.tta_tac.proofs.Taken.{DatumTaken}

@@ -1,13 +1,8 @@
 -- A text is a program exactly where the grammar describes it.
 use Rattle.std.proofs.Common.{◌≡◌, ℕ, List, Some, Ok, Err, Result, sym, ◌∙◌, ap, subst, refl}
 use Rattle.std.specs.Prelude.{IfOk, codes}
-use Rattle.tta_reading.specs.Lines.{lines_of}
-use Rattle.tta_reading.specs.Names.{named_in}
+use Rattle.tta_tac.specs.Cited.{lines_of, named_in, Units, Proc, Program, Reaches}
 use Rattle.tta_reading.proofs.Steps.{then-ok}
-use Rattle.tta_ops.specs.Units.{Units}
-use Rattle.tta_program.specs.declared.program.Proc.{Proc}
-use Rattle.tta_program.specs.Program.{Program}
-use Rattle.tta_program.specs.Rules.{Reaches}
 use Rattle.tta_tac.specs.declared.refusal.TacError.{TacError}
 use Rattle.tta_tac.specs.Draft.{Draft, nothing}
 use Rattle.tta_tac.specs.SecondPass.{link_procs}

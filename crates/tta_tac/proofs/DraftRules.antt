@@ -4,9 +4,7 @@ use Rattle.std.proofs.Common.{◌≡◌, ℕ, sym, ◌+◌, Bool, true, false, [
 use Rattle.std.specs.Prelude.{Option, Some, None, Result, Ok, Err}
 use Rattle.std.specs.Option.{IfSome, option_map_or}
 use Rattle.std.specs.Result.{OnOk}
-use Rattle.tta_reading.specs.declared.line_error.LineError.{LineError}
-use Rattle.tta_reading.specs.Taken.{Takes}
-use Rattle.tta_ops.specs.Units.{Units}
+use Rattle.tta_tac.specs.Cited.{LineError, Takes, Units}
 use Rattle.tta_tac.specs.declared.draft.DraftProc.{DraftProc}
 use Rattle.tta_tac.specs.Forms.{Form}
 use Rattle.tta_tac.specs.Draft.{ProcDraft, Draft, proc_seen}

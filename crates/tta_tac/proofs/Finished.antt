@@ -2,11 +2,9 @@
 use Rattle.std.proofs.Common.{◌≡◌, ℕ, suc, zero, ◌<◌, List, [], ◌∷◌, length, get_or, Some, None, Ok, Err, refl, sym, ◌∙◌, ap, arith}
 use Rattle.std.specs.Prelude.{slice_get, codes}
 use Rattle.std.specs.Option.{option_map_or}
-use Rattle.tta_reading.specs.Names.{named_in}
+use Rattle.tta_tac.specs.Cited.{named_in, Units, Proc}
 use Rattle.tta_reading.specs.Steps.{◌>>=◌}
 use Rattle.tta_reading.proofs.Steps.{then-ok}
-use Rattle.tta_ops.specs.Units.{Units}
-use Rattle.tta_program.specs.declared.program.Proc.{Proc}
 use Rattle.tta_tac.specs.declared.draft.DraftProc.{DraftProc}
 use Rattle.tta_tac.specs.declared.refusal.Refusal.TheVariants.{Recursive, NoMain}
 use Rattle.tta_tac.specs.declared.refusal.TacError.{TacError}

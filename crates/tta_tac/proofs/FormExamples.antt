@@ -2,11 +2,7 @@
 use Rattle.std.proofs.Common.{◌≡◌, ℕ, true, List, [], ◌∷◌, refl}
 use Rattle.std.specs.Prelude.{Option, Some, None, codes, is_none}
 use Rattle.std.specs.List.{list_all}
-use Rattle.tta_text.specs.Numbers.{value_below, digits_of, number_of, negative_of}
-use Rattle.tta_text.specs.Tokens.{number_piece, negative_piece, mark_piece, piece_at, tokens_from, tokens_of}
-use Rattle.tta_reading.specs.Lines.{Line, lines_of}
-use Rattle.tta_program.specs.declared.operand.Rel.TheVariants.{Ge, Ltu}
-use Rattle.tta_ops.specs.Reserved.{is_reserved}
+use Rattle.tta_tac.specs.Cited.{value_below, digits_of, number_of, negative_of, number_piece, negative_piece, mark_piece, piece_at, tokens_from, tokens_of, Line, lines_of, Ge, Ltu, is_reserved}
 use Rattle.tta_tac.specs.Forms.{
   Named,
   Constant,

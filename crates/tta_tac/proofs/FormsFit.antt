@@ -5,9 +5,8 @@ use Rattle.std.specs.Option.{option_map_or}
 use Rattle.std.specs.List.{list_all}
 use Rattle.std.proofs.lemmas.Bool.{and_from}
 use Rattle.tta_text.proofs.Limits.{under, is_under}
-use Rattle.tta_reading.specs.Lines.{Lexeme, Line}
-use Rattle.tta_reading.specs.Words.{is_keyword, is_mark, value_of, constant_of}
-use Rattle.tta_reading.specs.Steps.{◌>>?◌, only_if}
+use Rattle.tta_tac.specs.Cited.{Lexeme, Line, is_keyword, is_mark, value_of, constant_of, only_if}
+use Rattle.tta_reading.specs.Steps.{◌>>?◌}
 use Rattle.tta_reading.proofs.Steps.{then-some}
 use Rattle.tta_reading.proofs.Constants.{constant_under, plain_under}
 use Rattle.tta_tac.specs.Forms.{Operand, Named, Constant, free_name, operand_of, or_constant, operands_alone, names_alone, rel_of, Form, LabelForm, HaltForm, EndForm, proc_form, data_form, store_form, put_form, if_form, goto_form, when_form, call_form, return_form, alone_form, assign_form, named_form, form_of}

@@ -4,12 +4,8 @@ use Rattle.std.specs.Prelude.{is_some, option_to_list}
 use Rattle.std.specs.List.{list_all}
 use Rattle.std.proofs.lemmas.Bool.{and_from}
 use Rattle.tta_list.proofs.Tests.{none_from_is_some}
-use Rattle.tta_reading.specs.Lines.{Line}
-use Rattle.tta_reading.specs.Names.{Declared}
-use Rattle.tta_reading.specs.Steps.{at_line}
+use Rattle.tta_tac.specs.Cited.{Line, Declared, at_line, Units, DataLine}
 use Rattle.tta_reading.proofs.Steps.{then-ok, some-ok, at_line-ok}
-use Rattle.tta_ops.specs.Units.{Units}
-use Rattle.tta_program.specs.declared.program.DataLine.{DataLine}
 use Rattle.tta_tac.specs.declared.refusal.Refusal.TheVariants.{Syntax}
 use Rattle.tta_tac.specs.Forms.{Form, ProcForm, DataForm, LabelForm, form_of}
 use Rattle.tta_tac.specs.Draft.{Unlinked, ProcDraft, Draft, nothing}

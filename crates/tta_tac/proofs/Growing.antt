@@ -5,7 +5,7 @@ use Rattle.std.specs.List.{list_all, sum_by, AllByRecursion}
 use Rattle.std.proofs.lemmas.Bool.{and_from}
 use Rattle.std.proofs.lemmas.List.Folds.{list_all-append}
 use Rattle.std.proofs.lemmas.List.Sums.{sum_by-cons, sum_by-append}
-use Rattle.tta_reading.specs.Names.{Declared, named_in}
+use Rattle.tta_tac.specs.Cited.{Declared, named_in}
 use Rattle.tta_tac.specs.Draft.{Unlinked, ProcDraft, Draft, nothing}
 use Rattle.tta_tac.specs.FirstPass.{with_step}
 use Rattle.tta_tac.specs.Kept.{is_unlinked, IsProcDraft, IsOpen, IsEnded, all_procs, IsKept}

@@ -7,7 +7,7 @@ use Rattle.std.proofs.lemmas.Option.{slice_get-map}
 use Rattle.indexmap.specs.IndexMap.{IndexMap, insert_entry}
 use Rattle.indexmap.proofs.CallerLemmas.{insert_entry-new}
 use Rattle.tta_list.proofs.Tests.{none_from_is_some, same_back as same_test}
-use Rattle.tta_program.specs.declared.program.DataLine.{DataLine}
+use Rattle.tta_tac.specs.Cited.{DataLine}
 use Rattle.tta_tac.specs.declared.initial.Datum.{Datum}
 use Rattle.tta_tac.specs.FirstPass.{has_address}
 use Rattle.tta_list.proofs.Lists.{take_one_more as next_taken}

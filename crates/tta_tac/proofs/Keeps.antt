@@ -4,8 +4,7 @@ use Rattle.std.specs.Prelude.{◌||◌}
 use Rattle.std.specs.Option.{option_map_or, IfSome}
 use Rattle.std.specs.Str.{bytes_eq}
 use Rattle.std.proofs.lemmas.List.Folds.{list_any-append}
-use Rattle.tta_reading.specs.Names.{Declared, named_in}
-use Rattle.tta_ops.specs.Units.{Units}
+use Rattle.tta_tac.specs.Cited.{Declared, named_in, Units}
 use Rattle.tta_tac.specs.Forms.{Form}
 use Rattle.tta_tac.specs.Draft.{Unlinked, ProcDraft, Draft}
 use Rattle.tta_tac.specs.FirstPass.{vars_after, is_end, close_if, with_step, take_form}

@@ -8,16 +8,9 @@ use Rattle.std.proofs.lemmas.Bool.{and_from, eqb-true, eq-eqb}
 use Rattle.std.proofs.lemmas.Bool.Decides.{eqb_tells}
 use Rattle.std.proofs.lemmas.List.Sums.{sum_by-cons}
 use Rattle.std.proofs.Math.Dec.{eqb}
-use Rattle.tta_reading.specs.Names.{Declared, named_in}
-use Rattle.tta_reading.specs.Steps.{or_refuse, refuse_if}
+use Rattle.tta_tac.specs.Cited.{Declared, named_in, or_refuse, refuse_if, Src, Step, Proc, DataLine, Program, is_call, IsProc, IsProgram, Reaches, ByCall, ByMore}
 use Rattle.tta_reading.proofs.Steps.{then-ok}
-use Rattle.tta_program.specs.declared.operand.Src.{Src}
-use Rattle.tta_program.specs.declared.step.Step.{Step}
-use Rattle.tta_program.specs.declared.program.Proc.{Proc}
-use Rattle.tta_program.specs.declared.program.DataLine.{DataLine}
 use Rattle.tta_tac.specs.declared.refusal.Refusal.TheVariants.{UnknownProc}
-use Rattle.tta_program.specs.Program.{Program}
-use Rattle.tta_program.specs.Rules.{is_call, IsProc, IsProgram, Reaches, ByCall, ByMore}
 use Rattle.tta_tac.specs.Draft.{Draft, ProcDraft}
 use Rattle.tta_tac.specs.SecondPass.{callee_named, params_of, link_steps, link_proc, link_procs}
 use Rattle.tta_tac.specs.Text.{with_main}

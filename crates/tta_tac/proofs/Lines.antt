@@ -3,10 +3,8 @@ use Rattle.std.proofs.Common.{◌≡◌, ℕ, ◌+◌, Bool, true, false, List, 
 use Rattle.std.specs.Prelude.{◌||◌, ◌&&◌, nat_lt, Option, Some, None, Result, Ok, Err, is_some, codes}
 use Rattle.std.specs.Str.{bytes_eq}
 use Rattle.std.specs.Option.{option_map_or}
-use Rattle.tta_reading.specs.Names.{Declared, named_in}
-use Rattle.tta_reading.specs.Steps.{refuse_if}
+use Rattle.tta_tac.specs.Cited.{Declared, named_in, refuse_if, Units}
 use Rattle.tta_reading.proofs.Steps.{refuse_if-ok}
-use Rattle.tta_ops.specs.Units.{Units}
 use Rattle.tta_tac.specs.declared.refusal.Refusal.{Refusal}
 use Rattle.tta_tac.specs.declared.refusal.Refusal.TheVariants.{UnknownOp, Arity, TooMany}
 use Rattle.tta_tac.specs.declared.draft.DraftProc.{DraftProc}

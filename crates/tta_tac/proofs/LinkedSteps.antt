@@ -5,16 +5,12 @@ use Rattle.std.specs.Option.{option_map_or}
 use Rattle.std.specs.List.{list_all}
 use Rattle.std.proofs.lemmas.Bool.{and_from}
 use Rattle.tta_list.proofs.Tests.{and_right, and_map}
-use Rattle.tta_reading.specs.Names.{Declared, named_in}
-use Rattle.tta_reading.specs.Steps.{◌>>=◌, or_refuse, refuse_if, at_line}
+use Rattle.tta_tac.specs.Cited.{Declared, named_in, or_refuse, refuse_if, at_line, Src, Step, Proc, Program, is_src, is_call, ends_once}
+use Rattle.tta_reading.specs.Steps.{◌>>=◌}
 use Rattle.tta_reading.proofs.Steps.{then-ok, at_line-ok}
-use Rattle.tta_program.specs.declared.operand.Src.{Src}
-use Rattle.tta_program.specs.declared.step.Step.{Step}
 use Rattle.tta_program.specs.declared.step.Step.TheVariants as step
-use Rattle.tta_program.specs.declared.program.Proc.{Proc}
 use Rattle.tta_tac.specs.declared.refusal.Refusal.TheVariants.{UnknownLabel, Arity}
-use Rattle.tta_program.specs.Program.{Program}
-use Rattle.tta_program.specs.Rules.{is_src, is_call, is_step, is_end, ends_once}
+use Rattle.tta_program.specs.Rules.{is_step, is_end}
 use Rattle.tta_tac.specs.Draft.{Draft, Unlinked, Plain, IfTo, GotoTo, CallTo}
 use Rattle.tta_tac.specs.SecondPass.{callee_named, params_of, link_step, link_steps}
 use Rattle.tta_tac.specs.Text.{with_main}

@@ -8,18 +8,10 @@ use Rattle.std.proofs.lemmas.Option.{slice_get_within, slice_get-get_or}
 use Rattle.std.proofs.lemmas.List.Folds.{list_all-append}
 use Rattle.tta_list.proofs.Lists.{all_push}
 use Rattle.tta_list.proofs.Tests.{and_map}
-use Rattle.tta_reading.specs.Lines.{Line, lines_of}
-use Rattle.tta_reading.specs.Names.{Declared, named_in}
-use Rattle.tta_reading.specs.Steps.{or_refuse, refuse_if, at_line}
+use Rattle.tta_tac.specs.Cited.{Line, lines_of, Declared, named_in, or_refuse, refuse_if, at_line, Units, named, Rel, Step, Proc, StandsOver, is_over, has_test, test_name, Program}
 use Rattle.tta_reading.proofs.Steps.{then-ok, some-ok, at_line-ok}
-use Rattle.tta_ops.specs.Units.{Units, named}
 use Rattle.tta_ops.proofs.Named.{named_get}
-use Rattle.tta_program.specs.declared.operand.Rel.{Rel}
-use Rattle.tta_program.specs.declared.step.Step.{Step}
 use Rattle.tta_program.specs.declared.step.Step.TheVariants as step
-use Rattle.tta_program.specs.declared.program.Proc.{Proc}
-use Rattle.tta_program.specs.Over.{StandsOver, is_over, has_test, test_name}
-use Rattle.tta_program.specs.Program.{Program}
 use Rattle.tta_tac.specs.declared.refusal.Refusal.TheVariants.{Syntax, UnknownLabel, Arity}
 use Rattle.tta_tac.specs.declared.refusal.TacError.{TacError}
 use Rattle.tta_tac.specs.Forms.{Form, ApplyForm, IfForm, WhenForm, CallForm, ReturnForm, form_of}

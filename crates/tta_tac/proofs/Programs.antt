@@ -1,12 +1,8 @@
 -- A program that a text is keeps the rules of programs.
 use Rattle.std.proofs.Common.{◌≡◌, ℕ, List, Some, sym, ◌∙◌, ap, subst}
 use Rattle.std.specs.Prelude.{codes}
-use Rattle.tta_reading.specs.Lines.{lines_of}
-use Rattle.tta_reading.specs.Names.{named_in}
+use Rattle.tta_tac.specs.Cited.{lines_of, named_in, Units, Program, IsProgram}
 use Rattle.tta_reading.proofs.Steps.{then-ok}
-use Rattle.tta_ops.specs.Units.{Units}
-use Rattle.tta_program.specs.Program.{Program}
-use Rattle.tta_program.specs.Rules.{IsProgram}
 use Rattle.tta_tac.specs.Draft.{nothing}
 use Rattle.tta_tac.specs.SecondPass.{link_procs}
 use Rattle.tta_tac.specs.Text.{Linked, take_lines, linked_text, ProgramText}

@@ -10,9 +10,7 @@ use Rattle.std.proofs.lemmas.List.{append-nil, take_all, take-append-le}
 use Rattle.std.proofs.Common.{get_or-set_same, get_or-set_other, length-set}
 use Rattle.std.proofs.Math.Bool.{or-true, or-false}
 use Rattle.tta_list.proofs.Tests.{and_right, or_either}
-use Rattle.tta_program.specs.declared.step.Step.{Step}
-use Rattle.tta_program.specs.declared.program.Proc.{Proc}
-use Rattle.tta_program.specs.Rules.{calls, calls_proc, Reaches, ByCall}
+use Rattle.tta_tac.specs.Cited.{Step, Proc, calls, calls_proc, Reaches, ByCall}
 use Rattle.tta_tac.specs.Text.{with_main}
 use Rattle.tta_tac.specs.Cycles.{is_found, unset, IsMarked, Finds}
 use Rattle.tta_tac.proofs.CallLemmas.{calls_of, all_found, reaches_on}

@@ -1,7 +1,7 @@
 -- What the definitions see of lists of the code's steps and procedures.
 use Rattle.std.proofs.Common.{◌≡◌, suc, List, [], ◌∷◌, ◌++◌, length, refl, ap}
 use Rattle.tta_reading.specs.declared.word.Word.{Word}
-use Rattle.tta_reading.specs.Lines.{texts}
+use Rattle.tta_tac.specs.Cited.{texts}
 use Rattle.tta_tac.specs.declared.draft.NamedStep.{NamedStep}
 use Rattle.tta_tac.specs.declared.draft.DraftProc.{DraftProc}
 use Rattle.tta_tac.specs.Draft.{step_seen, steps_seen, proc_seen, procs_seen}

@@ -5,13 +5,10 @@ use Rattle.std.specs.Option.{option_map_or}
 use Rattle.std.specs.List.{list_all, list_any}
 use Rattle.std.proofs.lemmas.Bool.{and_from, or_parts, lt-ltb, ltb-true}
 use Rattle.tta_list.proofs.Tests.{and_left, and_right, and_map}
-use Rattle.tta_reading.specs.Names.{Declared}
-use Rattle.tta_ops.specs.Units.{Units}
-use Rattle.tta_program.specs.declared.operand.Src.{Src}
-use Rattle.tta_program.specs.declared.operand.Src.TheVariants.{Var, Word}
-use Rattle.tta_program.specs.declared.step.Step.{Step}
+use Rattle.tta_tac.specs.Cited.{Declared, Units, Src, Var, Step, is_src, is_call}
+use Rattle.tta_program.specs.declared.operand.Src.TheVariants.{Word}
 use Rattle.tta_program.specs.declared.step.Step.TheVariants as step
-use Rattle.tta_program.specs.Rules.{is_src, is_call, is_step}
+use Rattle.tta_program.specs.Rules.{is_step}
 use Rattle.tta_tac.specs.Text.{with_main}
 use Rattle.tta_tac.specs.Forms.{Operand, Form, ProcForm, DataForm, LabelForm, CopyForm, ApplyForm, LoadForm, StoreForm, PutForm, TakeForm, IfForm, GotoForm, WhenForm, CallForm, ReturnForm, HaltForm, EndForm}
 use Rattle.tta_tac.specs.Draft.{Unlinked, Plain, IfTo, GotoTo, CallTo}

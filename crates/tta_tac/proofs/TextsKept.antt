@@ -1,13 +1,9 @@
 -- A text whose lines were all taken made a draft that keeps the rules, and in which no procedure is left open.
 use Rattle.std.proofs.Common.{◌≡◌, ℕ, ◌+◌, true, List, [], ◌∷◌, Option, Some, None, Ok, refl, sym, ◌∙◌, ap, subst}
 use Rattle.std.specs.Option.{option_map_or}
-use Rattle.tta_reading.specs.Lines.{Line, lines_of}
-use Rattle.tta_reading.specs.Names.{Declared}
-use Rattle.tta_reading.specs.Steps.{at_line}
+use Rattle.tta_tac.specs.Cited.{Line, lines_of, Declared, at_line, Units, DataLine}
 use Rattle.tta_reading.proofs.Steps.{then-ok, some-ok, at_line-ok}
-use Rattle.tta_ops.specs.Units.{Units}
 use Rattle.tta_tac.specs.declared.refusal.Refusal.TheVariants.{Syntax}
-use Rattle.tta_program.specs.declared.program.DataLine.{DataLine}
 use Rattle.tta_tac.specs.Forms.{form_of}
 use Rattle.tta_tac.specs.Draft.{ProcDraft, Draft, nothing}
 use Rattle.tta_tac.specs.FirstPass.{take_line}

@@ -7,8 +7,7 @@ use Rattle.std.specs.List.{list_all}
 use Rattle.std.proofs.lemmas.Bool.{lt-ltb, or_left, or_right}
 use Rattle.std.specs.Cmp.Lexicographic.{nat_list_eq_equiv}
 use Rattle.tta_list.proofs.Tests.{and_map}
-use Rattle.tta_reading.specs.Names.{Declared, named_in}
-use Rattle.tta_program.specs.Rules.{is_src}
+use Rattle.tta_tac.specs.Cited.{Declared, named_in, is_src}
 use Rattle.tta_tac.specs.Forms.{Operand, Named, Constant}
 use Rattle.tta_tac.specs.FirstPass.{with_var, var_number, with_operand, with_operands, src_of, srcs_of, numbered}
 use Rattle.tta_tac.proofs.Twice.{declared-more}

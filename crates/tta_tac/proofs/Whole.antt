@@ -1,7 +1,6 @@
 -- Taking the lines of a text one by one.
 use Rattle.std.proofs.Common.{◌≡◌, ℕ, ◌+◌, List, [], ◌∷◌, Some, None, Ok, Err, refl, sym, ◌∙◌}
-use Rattle.tta_reading.specs.Lines.{Line, lines_of}
-use Rattle.tta_ops.specs.Units.{Units}
+use Rattle.tta_tac.specs.Cited.{Line, lines_of, Units}
 use Rattle.tta_tac.specs.declared.refusal.Refusal.{Refusal}
 use Rattle.tta_tac.specs.declared.refusal.Refusal.TheVariants.{Syntax}
 use Rattle.tta_tac.specs.declared.refusal.TacError.TheVariants as tac_error

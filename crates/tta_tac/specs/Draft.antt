@@ -2,15 +2,11 @@
 -- still names.
 use Rattle.std.specs.Prelude.{ℕ, List, [], ◌∷◌, Option, Some, None}
 use Rattle.std.specs.Option.{option_map_or}
-use Rattle.tta_reading.specs.Names.{Declared}
-use Rattle.tta_program.specs.declared.operand.Src.{Src}
-use Rattle.tta_program.specs.declared.step.Step.{Step}
-use Rattle.tta_program.specs.declared.program.DataLine.{DataLine}
+use Rattle.tta_tac.specs.Cited.{Declared, Src, Step, DataLine, Rel}
 use Rattle.tta_tac.specs.declared.draft.NamedStep.{NamedStep}
 use Rattle.tta_tac.specs.declared.draft.NamedStep.TheVariants as code_step
 use Rattle.tta_tac.specs.declared.draft.DraftProc.{DraftProc as CodeProc}
 use Rattle.tta_tac.specs.declared.draft.Draft.{Draft as CodeDraft}
-use Rattle.tta_program.specs.declared.operand.Rel.{Rel}
 
 -- a step whose label or callee is still a name
 pub data Unlinked : Type 0 where

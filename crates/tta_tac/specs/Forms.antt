@@ -1,11 +1,7 @@
 -- The forms of a program text's lines.
 use Rattle.std.specs.Prelude.{ℕ, not, if◌then◌else◌, List, [], ◌∷◌, Option, Some, None, codes}
-use Rattle.tta_reading.specs.Lines.{Lexeme, Line}
-use Rattle.tta_reading.specs.Words.{is_keyword, is_mark, name_of, value_of, constant_of}
-use Rattle.tta_reading.specs.Steps.{◌>>?◌, only_if}
-use Rattle.tta_ops.specs.Reserved.{is_reserved}
-use Rattle.tta_program.specs.declared.operand.Rel.{Rel}
-use Rattle.tta_program.specs.declared.operand.Rel.TheVariants.{Eq, Ne, Lt, Ge, Ltu, Geu}
+use Rattle.tta_tac.specs.Cited.{Lexeme, Line, is_keyword, is_mark, name_of, value_of, constant_of, only_if, is_reserved, Rel, Eq, Ne, Lt, Ge, Ltu, Geu}
+use Rattle.tta_reading.specs.Steps.{◌>>?◌}
 
 -- ---- words
 

@@ -4,12 +4,7 @@ use Rattle.std.specs.Prelude.{◌≡◌, ℕ, ◌+◌, ◌≤◌, Bool, true, fa
 use Rattle.std.specs.Str.{bytes_eq}
 use Rattle.std.specs.Option.{option_map_or}
 use Rattle.std.specs.List.{list_all, AllByRecursion}
-use Rattle.tta_reading.specs.Lines.{Line}
-use Rattle.tta_reading.specs.Names.{Declared, named_in}
-use Rattle.tta_ops.specs.Units.{Units}
-use Rattle.tta_program.specs.declared.program.DataLine.{DataLine}
-use Rattle.tta_program.specs.Program.{Program}
-use Rattle.tta_program.specs.Rules.{Reaches, are_apart}
+use Rattle.tta_tac.specs.Cited.{Line, Declared, named_in, Units, DataLine, Program, Reaches, are_apart}
 use Rattle.tta_tac.specs.Forms.{Form, ProcForm, DataForm, LabelForm, form_of}
 use Rattle.tta_tac.specs.Draft.{Unlinked, ProcDraft, Draft}
 use Rattle.tta_tac.specs.FirstPass.{vars_after, lacks_op, has_wrong_arity, has_many_args, has_twice, step_of, is_end, numbered}

@@ -3,10 +3,8 @@ use Rattle.std.specs.Prelude.{◌≡◌, ℕ, ◌+◌, ◌<◌, ◌≤◌, Bool,
 use Rattle.std.specs.Str.{bytes_eq}
 use Rattle.std.specs.Option.{option_map_or, IfSome}
 use Rattle.std.specs.List.{list_all, list_any, sum_by, AllByRecursion}
-use Rattle.tta_reading.specs.Names.{named_in}
-use Rattle.tta_program.specs.declared.step.Step.TheVariants.{End}
-use Rattle.tta_program.specs.declared.program.Proc.{Proc}
-use Rattle.tta_program.specs.Rules.{is_src, is_step, is_datum, are_apart}
+use Rattle.tta_tac.specs.Cited.{named_in, End, Proc, is_src, is_datum, are_apart}
+use Rattle.tta_program.specs.Rules.{is_step}
 use Rattle.tta_tac.specs.Text.{with_main}
 use Rattle.tta_tac.specs.Draft.{Unlinked, Plain, IfTo, GotoTo, CallTo, ProcDraft, Draft}
 

@@ -1,3 +1,4 @@
+pub mod Cited
 pub mod Refusals
 pub mod Forms
 pub mod Draft

@@ -1,17 +1,13 @@
 -- What the second pass makes, and reports.
 use Rattle.std.specs.Prelude.{◌≡◌, ℕ, List, Some, None, slice_get, Result, Ok, Err}
 use Rattle.std.specs.Option.{option_map_or}
-use Rattle.tta_reading.specs.Lines.{lines_of}
-use Rattle.tta_reading.specs.declared.line_error.LineError.{LineError}
+use Rattle.tta_tac.specs.Cited.{lines_of, LineError, Units, Proc, Program}
 use Rattle.tta_reading.specs.declared.line_error.LineError.TheVariants as line_error
-use Rattle.tta_ops.specs.Units.{Units}
-use Rattle.tta_program.specs.declared.program.Proc.{Proc}
 use Rattle.tta_tac.specs.declared.refusal.Refusal.{Refusal}
 use Rattle.tta_tac.specs.declared.refusal.Refusal.TheVariants.{Recursive}
 use Rattle.tta_tac.specs.declared.refusal.TacError.{TacError}
 use Rattle.tta_tac.specs.declared.refusal.TacError.TheVariants as tac_error
 use Rattle.tta_tac.specs.Refusals.{code_of}
-use Rattle.tta_program.specs.Program.{Program}
 use Rattle.tta_tac.specs.Draft.{Draft, nothing}
 use Rattle.tta_tac.specs.SecondPass.{Refused}
 use Rattle.tta_tac.specs.Text.{take_lines, IsFirstRecursive, ProgramText, HasCause}

@@ -2,11 +2,9 @@
 use Rattle.std.specs.Prelude.{ℕ, ◌==◌, not, List, [], ◌∷◌, length, slice_get, Result, Ok, codes}
 use Rattle.std.specs.Str.{bytes_eq}
 use Rattle.std.specs.Option.{option_map_or}
-use Rattle.tta_reading.specs.Names.{Declared, named_in}
-use Rattle.tta_reading.specs.Steps.{◌>>=◌, or_refuse, refuse_if, at_line}
-use Rattle.tta_program.specs.declared.step.Step.{Step}
+use Rattle.tta_tac.specs.Cited.{Declared, named_in, or_refuse, refuse_if, at_line, Step, Proc}
+use Rattle.tta_reading.specs.Steps.{◌>>=◌}
 use Rattle.tta_program.specs.declared.step.Step.TheVariants as step
-use Rattle.tta_program.specs.declared.program.Proc.{Proc}
 use Rattle.tta_tac.specs.declared.refusal.Refusal.{Refusal}
 use Rattle.tta_tac.specs.declared.refusal.Refusal.TheVariants.{UnknownLabel, UnknownProc, Arity}
 use Rattle.tta_tac.specs.Draft.{Unlinked, Plain, IfTo, GotoTo, CallTo, ProcDraft, Draft}

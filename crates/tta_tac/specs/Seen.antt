@@ -2,7 +2,7 @@
 use Rattle.std.specs.Prelude.{List, [], ◌∷◌, option_map}
 use Rattle.std.specs.List.{filter_map}
 use Rattle.tta_reading.specs.declared.word.Word.{Word}
-use Rattle.tta_reading.specs.Lines.{plain, texts}
+use Rattle.tta_tac.specs.Cited.{plain, texts}
 use Rattle.tta_tac.specs.declared.forms.Operand.{Operand as OperandWords}
 use Rattle.tta_tac.specs.declared.forms.Operand.TheVariants as operand_words
 use Rattle.tta_tac.specs.declared.forms.Operands.{Operands as OperandsWords}

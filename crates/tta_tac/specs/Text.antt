@@ -1,18 +1,13 @@
 -- Which program a text is, and where it is refused.
 use Rattle.std.specs.Prelude.{◌≡◌, ℕ, ◌+◌, ◌<◌, List, [], ◌∷◌, Option, Some, None, slice_get, Result, Ok, Err, codes}
 use Rattle.std.specs.Option.{option_map_or}
-use Rattle.tta_reading.specs.Lines.{Line, lines_of}
-use Rattle.tta_reading.specs.Names.{named_in}
-use Rattle.tta_reading.specs.Steps.{◌>>=◌, at_line}
-use Rattle.tta_ops.specs.Units.{Units}
-use Rattle.tta_program.specs.declared.program.Proc.{Proc}
+use Rattle.tta_tac.specs.Cited.{Line, lines_of, named_in, at_line, Units, Proc, Program, Reaches}
+use Rattle.tta_reading.specs.Steps.{◌>>=◌}
 use Rattle.tta_tac.specs.declared.refusal.Refusal.{Refusal}
 use Rattle.tta_tac.specs.declared.refusal.Refusal.TheVariants.{Syntax, Recursive, NoMain}
 use Rattle.tta_tac.specs.declared.refusal.TacError.{TacError}
 use Rattle.tta_tac.specs.declared.refusal.TacError.TheVariants as tac_error
 use Rattle.tta_tac.specs.Refusals.{code_of}
-use Rattle.tta_program.specs.Program.{Program}
-use Rattle.tta_program.specs.Rules.{Reaches}
 use Rattle.tta_tac.specs.Draft.{Draft, ProcDraft, nothing}
 use Rattle.tta_tac.specs.FirstPass.{take_line}
 use Rattle.tta_tac.specs.SecondPass.{Refused, link_procs}

@@ -1,6 +1,6 @@
 -- What becomes of the lines of a text.
 use Rattle.std.specs.Prelude.{◌≡◌, ℕ, List, None}
-use Rattle.tta_ops.specs.Units.{Units}
+use Rattle.tta_tac.specs.Cited.{Units}
 use Rattle.tta_tac.specs.Draft.{Draft}
 use Rattle.tta_tac.specs.Kept.{IsKept}
 use Rattle.tta_tac.specs.Reported.{IsDraftOf}

@@ -6,13 +6,7 @@ use Rattle.std.proofs.lemmas.Bool.Decides.{eqb_tells}
 use Rattle.std.proofs.lemmas.Map.Keys.{any_passes_from_place}
 use Rattle.tta_list.proofs.Tests.{and_left, and_right}
 use Rattle.tta_list.proofs.Lists.{all_one, list_all_one}
-use Rattle.tta_program.specs.declared.operand.Src.{Src}
-use Rattle.tta_program.specs.declared.step.Step.{Step}
-use Rattle.tta_program.specs.declared.step.Step.TheVariants.{Invoke}
-use Rattle.tta_program.specs.declared.program.Proc.{Proc}
-use Rattle.tta_program.specs.Program.{Program}
-use Rattle.tta_program.specs.Rules.{IsProgram, IsProc, Reaches, ByCall, ByMore, is_step, is_call, calls_proc}
-use Rattle.tta_program.specs.Sequential.{Frame, step_at}
+use Rattle.tta_tacrun.specs.Cited.{Src, Step, Invoke, Proc, Program, IsProgram, IsProc, Reaches, ByCall, ByMore, is_step, is_call, calls_proc, Frame, step_at}
 use Rattle.tta_tacrun.specs.Run.{is_called, is_path}
 use Rattle.tta_tacrun.proofs.First.{within_if}
 

@@ -4,10 +4,7 @@ use Rattle.std.specs.Prelude.{if◌then◌else◌, option_map}
 use Rattle.std.specs.Option.{option_map_or}
 use Rattle.std.proofs.lemmas.Option.{slice_get-map, slice_get_within}
 use Rattle.std.proofs.lemmas.List.{length-map}
-use Rattle.tta_program.specs.declared.step.Step.{Step}
-use Rattle.tta_program.specs.declared.program.Proc.{Proc}
-use Rattle.tta_program.specs.Program.{Program}
-use Rattle.tta_program.specs.Sequential.{step_at}
+use Rattle.tta_tacrun.specs.Cited.{Step, Proc, Program, step_at}
 use Rattle.tta_tacrun.proofs.Calling.{size_at}
 use Rattle.tta_tacrun.specs.Run.{AreQuietOf, HasSteps, QuietProc, code_of, is_quiet, is_quiet_there, quiet_at, quiet_part}
 

@@ -1,8 +1,7 @@
 -- A call, as the calls are kept.
 use Rattle.std.proofs.Common.{◌≡◌, ◌<◌, ◌≤◌, ℕ, List, [], ◌∷◌, ◌++◌, length, map, get_or, set, ap, ◌∙◌, arith, length-set}
 use Rattle.std.proofs.lemmas.List.{length-map}
-use Rattle.tta_program.specs.declared.operand.Src.{Src}
-use Rattle.tta_program.specs.Sequential.{operand}
+use Rattle.tta_tacrun.specs.Cited.{Src, operand}
 use Rattle.tta_tacrun.specs.Calls.{IsFresh, AreKept, begun, calls_of}
 use Rattle.tta_tacrun.specs.declared.entry.Entry.{Entry}
 use Rattle.tta_tacrun.proofs.Kept.{kept_enter, kept_fresh, calls_enter, length_at}

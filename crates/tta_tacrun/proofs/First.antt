@@ -2,9 +2,7 @@
 use Rattle.std.proofs.Common.{◌≡◌, ◌<◌, ◌-◌, ℕ, zero, suc, Bool, true, false, List, [], ◌∷◌, length, map, get_or, replicate, slice_get, refl, arith}
 use Rattle.std.specs.Option.{option_map_or}
 use Rattle.std.proofs.lemmas.List.{length-replicate}
-use Rattle.tta_program.specs.declared.program.Proc.{Proc}
-use Rattle.tta_program.specs.Program.{Program}
-use Rattle.tta_program.specs.Sequential.{enter}
+use Rattle.tta_tacrun.specs.Cited.{Proc, Program, enter}
 use Rattle.tta_tacrun.specs.Calls.{calls_of}
 use Rattle.tta_tacrun.specs.declared.entry.Entry.{Entry}
 

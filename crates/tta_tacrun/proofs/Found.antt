@@ -2,7 +2,7 @@
 use Rattle.std.proofs.Common.{◌≡◌, ℕ, List, slice_get, Some, ap, sym, ◌∙◌}
 use Rattle.std.specs.Prelude.{option_map}
 use Rattle.std.proofs.lemmas.Option.{slice_get-map}
-use Rattle.tta_program.specs.Program.{Program}
+use Rattle.tta_tacrun.specs.Cited.{Program}
 use Rattle.tta_tacrun.specs.declared.flat_proc.FlatProc.{FlatProc}
 use Rattle.tta_tacrun.specs.Code.{code_said, said_proc}
 use Rattle.tta_tacrun.specs.Run.{code_of}

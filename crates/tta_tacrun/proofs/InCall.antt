@@ -1,12 +1,7 @@
 -- Steps that stay in one call.
 use Rattle.std.proofs.Common.{◌≡◌, ◌+◌, ℕ, suc, true, List, [], ◌∷◌, is_some, Option, Some, None, refl, ap, sym, ◌∙◌, arith}
 use Rattle.std.specs.Prelude.{IfSome}
-use Rattle.tta_list.specs.Iterate.{iterate}
-use Rattle.tta_ops.specs.Units.{Units}
-use Rattle.tta_program.specs.declared.step.Step.{Step}
-use Rattle.tta_program.specs.Program.{Program}
-use Rattle.tta_program.specs.Rules.{IsProgram}
-use Rattle.tta_program.specs.Sequential.{State, Frame, step_at, next}
+use Rattle.tta_tacrun.specs.Cited.{iterate, Units, Step, Program, IsProgram, State, Frame, step_at, next}
 use Rattle.tta_tacrun.specs.Run.{GoesTo, frame, going, is_path, is_placed, quiet_at}
 use Rattle.tta_tacrun.proofs.Coded.{quiet_step}
 use Rattle.tta_tacrun.proofs.Placed.{carried_placed}

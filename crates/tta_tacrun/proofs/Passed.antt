@@ -1,8 +1,7 @@
 -- Arguments that are passed one by one.
 use Rattle.std.proofs.Common.{◌≡◌, ◌≢◌, ◌<◌, ◌≤◌, ◌+◌, ◌-◌, ℕ, suc, List, [], ◌∷◌, ◌++◌, length, map, get_or, set, take, replicate, ap, sym, ◌∙◌, arith}
 use Rattle.std.proofs.lemmas.List.{append_assoc, map-append, length-append, length-map, length-replicate, length-take-le, get_or-set_same, get_or-set_other, get_or_read, length-set, set-set, set_at, take_more}
-use Rattle.tta_program.specs.declared.operand.Src.{Src}
-use Rattle.tta_program.specs.Sequential.{operand}
+use Rattle.tta_tacrun.specs.Cited.{Src, operand}
 use Rattle.tta_tacrun.specs.Calls.{begun}
 
 -- as many variables as there are, where the arguments are no more

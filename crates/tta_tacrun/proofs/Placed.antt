@@ -4,18 +4,12 @@ use Rattle.std.specs.Prelude.{if◌then◌else◌, nat_lt, slice_index}
 use Rattle.std.specs.Option.{option_map_or}
 use Rattle.tta_list.proofs.Lists.{list_all_one, some_below, all_one}
 use Rattle.tta_list.proofs.Tests.{and_right, and_left}
-use Rattle.tta_ops.specs.Units.{Units}
-use Rattle.tta_program.specs.declared.step.Step.{Step}
-use Rattle.tta_program.specs.declared.step.Step.TheVariants.{Copy, Apply, Load, Store, Put, Take, If, Goto, When, Invoke, Return, Halt, End}
-use Rattle.tta_program.specs.declared.program.Proc.{Proc}
-use Rattle.tta_program.specs.Program.{Program}
-use Rattle.tta_program.specs.Rules.{IsProgram, IsProc, is_src, is_step, ends_once, calls_proc}
-use Rattle.tta_program.specs.Sequential.{Frame, State, step_at, takes, carry_out, enter, assigns, goes_to, holds, operand, returns, take_value}
-use Rattle.tta_program.specs.Rules.{is_end}
+use Rattle.tta_tacrun.specs.Cited.{Units, Step, Put, Take, Invoke, Return, Halt, End, Proc, Program, IsProgram, IsProc, is_src, is_step, ends_once, calls_proc, Frame, State, step_at, takes, carry_out, enter, assigns, goes_to, holds, operand, take_value, is_end, left}
+use Rattle.tta_program.specs.declared.step.Step.TheVariants.{Copy, Apply, Load, Store, If, Goto, When}
+use Rattle.tta_program.specs.Sequential.{returns}
 use Rattle.tta_tacrun.specs.declared.phase.Phase.{Phase}
 use Rattle.tta_tacrun.specs.declared.phase.Phase.TheVariants.{Running as Runs, Stopped, Returned}
 use Rattle.tta_tacrun.specs.Calls.{Calls}
-use Rattle.tta_list.specs.Input.{left}
 use Rattle.tta_tacrun.specs.Run.{AreCallsOf, IsRunOf, QuietProc, code_of, is_called, is_path, is_placed, put, run_of, stack_of, state_of}
 use Rattle.tta_tacrun.proofs.Calling.{call_of}
 

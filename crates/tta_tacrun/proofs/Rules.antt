@@ -5,12 +5,8 @@ use Rattle.std.specs.Option.{option_map_or}
 use Rattle.std.specs.List.{list_all}
 use Rattle.tta_list.proofs.Lists.{list_all_one, all_one}
 use Rattle.tta_list.proofs.Tests.{and_left, and_map}
-use Rattle.tta_program.specs.declared.step.Step.{Step}
-use Rattle.tta_program.specs.declared.step.Step.TheVariants.{Copy, Apply, Load, Store, Put, Take, If, Goto, When, Invoke, Return, Halt, End}
-use Rattle.tta_program.specs.declared.program.Proc.{Proc}
-use Rattle.tta_program.specs.Program.{Program}
-use Rattle.tta_program.specs.Rules.{IsProgram, IsProc, is_src, is_step}
-use Rattle.tta_program.specs.Sequential.{step_at}
+use Rattle.tta_tacrun.specs.Cited.{Step, Put, Take, Invoke, Return, Halt, End, Proc, Program, IsProgram, IsProc, is_src, is_step, step_at}
+use Rattle.tta_program.specs.declared.step.Step.TheVariants.{Copy, Apply, Load, Store, If, Goto, When}
 use Rattle.tta_tacrun.specs.Flat.{has_variables}
 use Rattle.tta_tacrun.proofs.Calling.{size_at}
 

@@ -3,16 +3,11 @@ use Rattle.std.proofs.Common.{◌≡◌, ◌+◌, ℕ, true, false, List, ◌++�
 use Rattle.std.specs.Prelude.{option_to_list, slice_get, slice_index}
 use Rattle.std.specs.Option.{unwrap_or}
 use Rattle.std.proofs.lemmas.List.{append-nil}
-use Rattle.tta_ops.specs.Units.{Units}
-use Rattle.tta_program.specs.declared.step.Step.{Step}
-use Rattle.tta_program.specs.Program.{Program}
-use Rattle.tta_program.specs.Sequential.{State, Halted, Waiting, step_at, takes, waits, goes_through, next}
+use Rattle.tta_tacrun.specs.Cited.{Units, Step, Program, State, Halted, Waiting, step_at, takes, waits, goes_through, next, left, iterate}
 use Rattle.tta_tacrun.specs.declared.answer.SeqStep.TheVariants.{Ran, Halted as DoesNotRun, Waiting as Waits}
 use Rattle.tta_tacrun.specs.declared.phase.Phase.{Phase}
 use Rattle.tta_tacrun.specs.declared.phase.Phase.TheVariants.{Running as Runs}
 use Rattle.tta_tacrun.specs.Calls.{Calls}
-use Rattle.tta_list.specs.Input.{left}
-use Rattle.tta_list.specs.Iterate.{iterate}
 use Rattle.tta_tacrun.specs.Run.{Run, QuietProc, Stands, IsAnswer, IsQuiet, put, run_of, state_of}
 use Rattle.tta_tacrun.proofs.Placed.{Carries}
 

@@ -1,7 +1,7 @@
 -- The calls that are under way, and how they are kept.
 use Rattle.std.specs.Prelude.{◌≡◌, ℕ, ◌<◌, ◌≤◌, ◌-◌, false, eqb, List, [], ◌∷◌, ◌++◌, length, map, replicate, reverse, slice_index_or}
 use Rattle.std.specs.List.{AllByRecursion, IsDistinct}
-use Rattle.tta_program.specs.Sequential.{Frame}
+use Rattle.tta_tacrun.specs.Cited.{Frame}
 use Rattle.tta_tacrun.specs.declared.entry.Entry.{Entry}
 
 -- how many variables each procedure has; the innermost call; and the others, the innermost of them first

@@ -1,11 +1,7 @@
 -- Steps whose operands are cells, and what they say.
 use Rattle.std.specs.Prelude.{ℕ, ◌==◌, Bool, true, ◌&&◌, ◌||◌, if◌then◌else◌, nat_lt, List, length, Option, Some, None}
-use Rattle.tta_program.specs.declared.operand.Src.{Src}
-use Rattle.tta_program.specs.declared.operand.Src.TheVariants.{Var, Word}
-use Rattle.tta_program.specs.declared.step.Step.{Step}
+use Rattle.tta_tacrun.specs.Cited.{Src, Var, Word, Step, is_src, operand}
 use Rattle.tta_program.specs.declared.step.Step.TheVariants as step
-use Rattle.tta_program.specs.Rules.{is_src}
-use Rattle.tta_program.specs.Sequential.{operand}
 use Rattle.tta_tacrun.specs.declared.flat.Operand.{Operand}
 use Rattle.tta_tacrun.specs.declared.flat.FlatStep.{FlatStep}
 use Rattle.tta_tacrun.specs.declared.flat.FlatStep.TheVariants.{Copy, Apply, Load, Store, If, Goto, When, Loud}

@@ -1,3 +1,4 @@
+pub mod Cited
 pub mod Behind
 pub mod Calls
 pub mod Code

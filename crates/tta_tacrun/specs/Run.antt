@@ -1,13 +1,9 @@
 -- What a run holds, and which state it stands for.
 use Rattle.std.specs.Prelude.{◌≡◌, ◌<◌, ℕ, Bool, true, false, ◌&&◌, if◌then◌else◌, List, [], ◌∷◌, ◌++◌, map, slice_index_or, Option, None, Some, is_some, option_to_list}
 use Rattle.std.specs.Option.{option_map_or}
-use Rattle.tta_list.specs.Input.{left}
-use Rattle.tta_ops.specs.Units.{Units}
-use Rattle.tta_program.specs.declared.step.Step.{Step}
-use Rattle.tta_program.specs.declared.step.Step.TheVariants.{Copy, Apply, Load, Store, If, Goto, When, Invoke}
-use Rattle.tta_program.specs.Program.{Program}
-use Rattle.tta_program.specs.Rules.{calls_proc}
-use Rattle.tta_program.specs.Sequential.{Frame, Outcome, State, Running, Halted, Waiting, carry_out, step_at, takes, next}
+use Rattle.tta_tacrun.specs.Cited.{left, Units, Step, Invoke, Program, calls_proc, Frame, Outcome, State, Halted, Waiting, carry_out, step_at, takes, next}
+use Rattle.tta_program.specs.declared.step.Step.TheVariants.{Copy, Apply, Load, Store, If, Goto, When}
+use Rattle.tta_program.specs.Sequential.{Running}
 use Rattle.tta_tacrun.specs.declared.answer.SeqStep.{SeqStep}
 use Rattle.tta_tacrun.specs.declared.answer.SeqStep.TheVariants.{Ran, Halted as DoesNotRun, Waiting as Waits}
 use Rattle.tta_tacrun.specs.declared.phase.Phase.{Phase}

@@ -1,13 +1,6 @@
 -- Code that was built, and what became of its image.
 use Rattle.std.proofs.Common.{ℕ, List, Result, Ok, Err, sym, subst}
-use Rattle.tta_ops.specs.Units.{Units}
-use Rattle.tta_program.specs.Program.{Program}
-use Rattle.tta_code.specs.Whole.{Whole}
-use Rattle.tta_image.specs.Image.{Image}
-use Rattle.tta_build.specs.Statement.{IsBuilt}
-use Rattle.tta_given.specs.declared.machine.MachineFile.{MachineFile}
-use Rattle.tta_given.specs.declared.status.Status.{Status}
-use Rattle.tta_given.specs.Held.{MadeEnds, no_memory}
+use Rattle.tta_tool.specs.Cited.{Units, Program, Whole, Image, IsBuilt, MachineFile, Status, MadeEnds, no_memory}
 use Rattle.tta_tool.specs.Build.{IsImageOf, IsCauseOf}
 
 pub whole_image : {T : Type 0} → (u : Units) (file : MachineFile) (p : Program) (whole : Whole) (items : T → List ℕ) (result : Result T Status)

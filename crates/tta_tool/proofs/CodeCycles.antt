@@ -1,9 +1,7 @@
 -- Code that has halted or faulted stays.
 use Rattle.std.proofs.Common.{◌≡◌, ℕ, ap}
-use Rattle.tta_ops.specs.Units.{Units}
-use Rattle.tta_arch.specs.Machine.{Machine}
-use Rattle.tta_code.specs.declared.code.Code.{Code}
-use Rattle.tta_code.specs.Cycle.{State, Halted, Fault, next, next_of}
+use Rattle.tta_tool.specs.Cited.{Units, Machine, Code, Fault}
+use Rattle.tta_code.specs.Cycle.{State, Halted, next, next_of}
 
 -- a state that has halted stays
 pub halted_stays : (u : Units) (m : Machine) (code : Code) (s : State) → s.outcome ≡ Halted → next u m code s ≡ s

@@ -1,19 +1,7 @@
 -- What was made of a converted program, and what became of it.
 use Rattle.std.proofs.Common.{◌≡◌, ◌⊎◌, ℕ, List, Result, Ok, Err, sym, subst, inl, inr}
-use Rattle.tta_ports.specs.World.{World, IsUntouched}
+use Rattle.tta_tool.specs.Cited.{World, IsUntouched, Units, Program, Whole, Image, ProgramText, Converted, printed, IsBuiltConverted, MachineFile, Status, IsTaken, MadeEnds, no_memory, WritesMade, WritingEnds}
 use Rattle.tta_ports.proofs.Worlds.{same_world}
-use Rattle.tta_ops.specs.Units.{Units}
-use Rattle.tta_program.specs.Program.{Program}
-use Rattle.tta_code.specs.Whole.{Whole}
-use Rattle.tta_image.specs.Image.{Image}
-use Rattle.tta_tac.specs.Text.{ProgramText}
-use Rattle.tta_ifconv.specs.Converted.{Converted}
-use Rattle.tta_printed.specs.Printed.{printed}
-use Rattle.tta_build.specs.Converted.{IsBuiltConverted}
-use Rattle.tta_given.specs.declared.machine.MachineFile.{MachineFile}
-use Rattle.tta_given.specs.declared.status.Status.{Status}
-use Rattle.tta_given.specs.Held.{IsTaken, MadeEnds, no_memory}
-use Rattle.tta_given.specs.Ends.{WritesMade, WritingEnds}
 use Rattle.tta_given.proofs.Endings.{writing_ends}
 use Rattle.tta_tool.specs.Ifconv.{IsConvertedText, WritesConverted}
 use Rattle.tta_tool.specs.BuildConverted.{IsConvertedImageOf, IsConvertedCauseOf}

@@ -1,19 +1,8 @@
 -- How the endings of the parts of `debug` make its own.
 use Rattle.std.proofs.Common.{◌≡◌, ◌⊎◌, ℕ, false, List, Option, subst, inr}
-use Rattle.tta_ports.specs.World.{World}
-use Rattle.tta_ports.specs.Output.{Output, IsPut}
+use Rattle.tta_tool.specs.Cited.{World, Output, IsPut, Units, Machine, Whole, Fault, is_fault, Debugged, Session', Follows, Status, WasRead, IsTaken, ReadFails, Fills, StreamFails, ReadsStream}
 use Rattle.tta_ports.proofs.Worlds.{same_world}
-use Rattle.tta_ops.specs.Units.{Units}
-use Rattle.tta_arch.specs.Machine.{Machine}
-use Rattle.tta_code.specs.Whole.{Whole}
-use Rattle.tta_code.specs.Cycle.{Fault}
-use Rattle.tta_sim.specs.Held.{is_fault}
-use Rattle.tta_debug.specs.Debugged.{Debugged}
-use Rattle.tta_debug.specs.Sessions.{Session', Follows}
-use Rattle.tta_given.specs.declared.status.Status.{Status}
 use Rattle.tta_given.specs.declared.status.Status.TheVariants as status
-use Rattle.tta_given.specs.Held.{WasRead, IsTaken, ReadFails}
-use Rattle.tta_given.specs.Inputs.{Fills, StreamFails, ReadsStream}
 use Rattle.tta_tool.specs.Debug.{HasBytes, ReadsScript, AskedFails, ReadsAsked, AskedRuns, said, EndsAs, SessionEnds}
 
 -- ---- what a session is asked

@@ -1,7 +1,6 @@
 -- What is loaded has made no step.
 use Rattle.std.proofs.Common.{◌≡◌, ◌<◌, ◌^◌, ℕ, ◌+◌, List, [], length, sym, subst, arith}
-use Rattle.tta_arch.specs.Machine.{Machine}
-use Rattle.tta_program.specs.Program.{Program}
+use Rattle.tta_tool.specs.Cited.{Machine, Program}
 use Rattle.tta_program.specs.Sequential.{start as program_start}
 use Rattle.tta_tacrun.specs.Run as program
 use Rattle.tta_tacrun.specs.Run.{Run}

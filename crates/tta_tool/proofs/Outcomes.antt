@@ -2,7 +2,7 @@
 use Rattle.std.proofs.Common.{◌≡◌, ℕ, refl, sym, ap, ◌∙◌}
 use Rattle.tta_program.specs.Sequential as program
 use Rattle.tta_code.specs.Cycle as code
-use Rattle.tta_run.specs.declared.ended.Ended.{Ended}
+use Rattle.tta_tool.specs.Cited.{Ended}
 use Rattle.tta_run.specs.declared.ended.Ended.TheVariants as ended
 use Rattle.tta_tool.specs.Steps as steps
 use Rattle.tta_tool.specs.Cycles as cycles

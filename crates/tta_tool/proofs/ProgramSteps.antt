@@ -1,12 +1,8 @@
 -- The steps of a program: one that has halted stays, and each other is counted.
 use Rattle.std.proofs.Common.{◌≡◌, ℕ, zero, suc, ◌+◌, ◌⊎◌, inl, inr, Bool, true, false, if◌then◌else◌, List, [], ◌∷◌, Option, Some, None, refl, sym, ap, ◌∙◌, arith}
 use Rattle.std.specs.Option.{option_map_or}
-use Rattle.tta_list.specs.Iterate.{iterate}
-use Rattle.tta_ops.specs.Units.{Units}
-use Rattle.tta_program.specs.declared.step.Step.{Step}
-use Rattle.tta_program.specs.declared.step.Step.TheVariants.{When, Invoke, Return, End}
-use Rattle.tta_program.specs.Program.{Program}
-use Rattle.tta_program.specs.Sequential.{State, Frame, Outcome, Running, Halted, Waiting, next, next_of, go_on, goes_through, waits, carry_out, returns, take_value, assigns, goes_to, operand, holds, step_at}
+use Rattle.tta_tool.specs.Cited.{iterate, Units, Step, When, Invoke, Return, End, Program, Frame, go_on, goes_through, take_value, assigns, goes_to, operand, holds, step_at}
+use Rattle.tta_program.specs.Sequential.{State, Outcome, Running, Halted, Waiting, next, next_of, waits, carry_out, returns}
 
 -- ---- counting
 

@@ -1,24 +1,13 @@
 -- How the endings of the parts of `sample` make its own.
 use Rattle.std.proofs.Common.{◌≡◌, ◌≤◌, ℕ, ◌+◌, ◌*◌, Bool, true, false, List, [], length, refl, sym, ap, ◌∙◌, subst, arith}
 use Rattle.std.proofs.lemmas.List.{length-replicate}
-use Rattle.tta_print.specs.Lines.{lines_text}
-use Rattle.tta_ops.specs.Units.{Units}
-use Rattle.tta_arch.specs.Machine.{Machine}
-use Rattle.tta_list.specs.Laid.{over}
-use Rattle.tta_program.specs.Program.{Program, data_of}
+use Rattle.tta_tool.specs.Cited.{lines_text, Units, Machine, over, Program, data_of, Whole, data_in, HaltAlike, IsGiven, IsBuilt, Status, PutEnds, Output, Keeps}
 use Rattle.tta_program.specs.Sequential as program
-use Rattle.tta_code.specs.Whole.{Whole, data_in}
 use Rattle.tta_code.specs.Cycle as cycle
-use Rattle.tta_agree.specs.Agrees.{HaltAlike, IsGiven}
 use Rattle.tta_agree.proofs.Words.{none_words}
 use Rattle.tta_tacrun.specs.Run as sequential
 use Rattle.tta_sim.specs.Held as simulated
-use Rattle.tta_build.specs.Statement.{IsBuilt}
-use Rattle.tta_given.specs.declared.status.Status.{Status}
 use Rattle.tta_given.specs.declared.status.Status.TheVariants as status
-use Rattle.tta_given.specs.Ends.{PutEnds}
-use Rattle.tta_ports.specs.Output.{Output}
-use Rattle.tta_run.specs.Loops.{Keeps}
 use Rattle.tta_tool.specs.Steps as steps
 use Rattle.tta_tool.specs.Cycles as cycles
 use Rattle.tta_tool.specs.Sample.{zeros, program_after, code_after, summary, HasRun, HasCycled, StandAlike, CompareEnds}

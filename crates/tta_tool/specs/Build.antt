@@ -1,18 +1,8 @@
 -- What the command `build` does, and why it does not.
 use Rattle.std.specs.Prelude.{ℕ, List}
-use Rattle.tta_ports.specs.World.{World}
-use Rattle.tta_ops.specs.Units.{Units}
-use Rattle.tta_arch.specs.Machine.{Machine}
-use Rattle.tta_program.specs.Program.{Program}
-use Rattle.tta_code.specs.Whole.{Whole}
-use Rattle.tta_image.specs.Image.{Image}
+use Rattle.tta_tool.specs.Cited.{World, Units, Machine, Program, Whole, Image, IsBuilt, HasCause, MachineFile, Status, IsProgramFor, RefusesProgramFor, Writes}
 use Rattle.tta_build.specs.declared.error.BuildError.TheVariants as cause
-use Rattle.tta_build.specs.Statement.{IsBuilt, HasCause}
-use Rattle.tta_given.specs.declared.machine.MachineFile.{MachineFile}
-use Rattle.tta_given.specs.declared.status.Status.{Status}
 use Rattle.tta_given.specs.declared.status.Status.TheVariants as status
-use Rattle.tta_given.specs.Programs.{IsProgramFor, RefusesProgramFor}
-use Rattle.tta_given.specs.Ends.{Writes}
 
 -- Bytes are the image of code with data that was built for a machine and a program: it does what the program does, from every
 -- memory, for every input and for every bound. It carries the digest of the machine's text.

@@ -1,15 +1,7 @@
 -- What the command `check` does, and why it does not.
 use Rattle.std.specs.Prelude.{◌≡◌, ℕ, List, codes}
-use Rattle.tta_ports.specs.World.{World}
-use Rattle.tta_ports.specs.Output.{Output}
-use Rattle.tta_ops.specs.Units.{Units}
-use Rattle.tta_code.specs.Whole.{Whole}
-use Rattle.tta_check.specs.Verdict.{IsSafe, IsUnsafe, NeverFaults}
-use Rattle.tta_given.specs.declared.machine.MachineFile.{MachineFile}
-use Rattle.tta_given.specs.declared.status.Status.{Status}
+use Rattle.tta_tool.specs.Cited.{World, Output, Units, Whole, IsSafe, IsUnsafe, NeverFaults, MachineFile, Status, IsImageFor, RefusesImage, Puts}
 use Rattle.tta_given.specs.declared.status.Status.TheVariants as status
-use Rattle.tta_given.specs.Images.{IsImageFor, RefusesImage}
-use Rattle.tta_given.specs.Ends.{Puts}
 
 -- no walk of the code has a code and no two disagree; so no run of it faults
 pub record CannotFault (file : MachineFile) (whole : Whole) : Type 0 where

@@ -1,10 +1,6 @@
 -- How a command ends.
 use Rattle.std.specs.Prelude.{Option, Some, None}
-use Rattle.tta_ports.specs.World.{World}
-use Rattle.tta_ports.specs.Output.{Output, IsQuiet}
-use Rattle.tta_ops.specs.Units.{Units}
-use Rattle.tta_given.specs.declared.status.Status.{Status}
-use Rattle.tta_given.specs.Ends.{IsUsage}
+use Rattle.tta_tool.specs.Cited.{World, Output, IsQuiet, Units, Status, IsUsage, Nets}
 use Rattle.tta_tool.specs.Request.{Request, Build, BuildConverted, Ifconv, Asm, Dis, Check, Exec, Run, Debug, Sample, Net}
 use Rattle.tta_tool.specs.Build.{Builds}
 use Rattle.tta_tool.specs.BuildConverted.{BuildsConverted}
@@ -16,7 +12,6 @@ use Rattle.tta_tool.specs.Exec.{Execs}
 use Rattle.tta_tool.specs.Run.{Runs}
 use Rattle.tta_tool.specs.Debug.{Debugs}
 use Rattle.tta_tool.specs.Sample.{Samples}
-use Rattle.tta_network.specs.Net.{Nets}
 
 -- How a request ends. What writes a file outputs nothing.
 abbrev pub Ends : Units → Option Request → (before after : World) → (old new : Output) → Status → Type 0

@@ -1,16 +1,8 @@
 -- The output of code grows with each cycle, and a state that waits stays and reports that.
 use Rattle.std.proofs.Common.{◌≡◌, ℕ, ◌+◌, ◌==◌, Bool, true, false, if◌then◌else◌, List, [], ◌∷◌, ◌++◌, fold, Option, Some, None, refl, sym, ap, ◌∙◌, append_assoc, append-nil, slice_get}
 use Rattle.std.specs.List.{filter_map}
-use Rattle.tta_ops.specs.Units.{Units}
-use Rattle.tta_arch.specs.declared.parts.Op.{Op}
-use Rattle.tta_arch.specs.declared.parts.Op.TheVariants.{Out}
-use Rattle.tta_arch.specs.Machine.{Machine}
-use Rattle.tta_arch.specs.Effects.{Kind, Jumps, Calls, Halts, Brought, Start, Written, put_out, control_of, first_some, bring, write_of, start_of}
-use Rattle.tta_code.specs.declared.code.Code.{Code}
-use Rattle.tta_code.specs.declared.code.Instruction.{Instruction}
-use Rattle.tta_code.specs.Cycle.{State, Outcome, Running, Halted, Waiting, Fault, Pending, next, next_of, carry_out, or_fault, or_wait, waits, acts, lands, takes_effect, pending_after, effects_of, read_source, fault_of}
-use Rattle.tta_run.specs.Meaning.{OutputGrows, WaitStays}
-use Rattle.tta_run.specs.Reports.{WaitReports}
+use Rattle.tta_tool.specs.Cited.{Units, Op, Out, Machine, Kind, Jumps, Calls, Halts, Brought, Start, Written, put_out, control_of, first_some, bring, write_of, start_of, Code, Instruction, Fault, Pending, or_fault, or_wait, acts, lands, takes_effect, pending_after, effects_of, read_source, fault_of, OutputGrows, WaitStays, WaitReports}
+use Rattle.tta_code.specs.Cycle.{State, Outcome, Running, Halted, Waiting, next, next_of, carry_out, waits}
 use Rattle.tta_tool.specs.Cycles.{meaning_of, reports}
 
 -- one list begins another

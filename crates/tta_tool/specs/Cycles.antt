@@ -1,16 +1,11 @@
 -- The run of code, move by move.
 use Rattle.std.specs.Prelude.{ℕ, Bool, List, ◌++◌}
 use Rattle.tta_print.specs.declared.line.Line.TheVariants as line
-use Rattle.tta_print.specs.Lines.{lines_text, word_lines}
-use Rattle.tta_ops.specs.Units.{Units}
-use Rattle.tta_arch.specs.Machine.{Machine}
-use Rattle.tta_code.specs.declared.code.Code.{Code}
-use Rattle.tta_code.specs.Cycle.{State, Outcome, Running, Halted, Waiting, Fault, next}
-use Rattle.tta_run.specs.declared.ended.Ended.{Ended}
+use Rattle.tta_tool.specs.Cited.{lines_text, word_lines, Units, Machine, Code, Fault, Ended, Meaning, last_text}
+use Rattle.tta_code.specs.Cycle.{State, Outcome, Running, Halted, Waiting, next}
 use Rattle.tta_run.specs.declared.ended.Ended.TheVariants as ended
-use Rattle.tta_run.specs.Meaning.{Meaning}
 use Rattle.tta_run.specs.Loops as loops
-use Rattle.tta_run.specs.Reports.{Reports, last_text}
+use Rattle.tta_run.specs.Reports.{Reports}
 use Rattle.tta_sim.specs.Held.{Held, Stands}
 
 -- a machine, and the code that it runs

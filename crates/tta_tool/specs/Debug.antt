@@ -1,23 +1,10 @@
 -- What the command `debug` does, and why it does not.
 use Rattle.std.specs.Prelude.{◌≡◌, ◌≤◌, ◌⊎◌, ℕ, false, List, [], length, Option, Result, Ok, Err}
-use Rattle.tta_ports.specs.Store.{Store}
-use Rattle.tta_ports.specs.Files.{Holds}
-use Rattle.tta_ports.specs.World.{World, IsUntouched}
-use Rattle.tta_ports.specs.Output.{Output, IsQuiet, IsPut, IsCut}
-use Rattle.tta_ops.specs.Units.{Units}
-use Rattle.tta_arch.specs.Machine.{Machine}
-use Rattle.tta_code.specs.Whole.{Whole}
-use Rattle.tta_code.specs.Cycle.{Outcome, Fault}
-use Rattle.tta_agree.specs.Agrees.{code_at}
-use Rattle.tta_sim.specs.Held.{is_fault}
-use Rattle.tta_debug.specs.Debugged.{Debugged, session as replies_of}
+use Rattle.tta_tool.specs.Cited.{Store, Holds, World, IsUntouched, Output, IsQuiet, IsPut, IsCut, Units, Machine, Whole, Fault, code_at, is_fault, Debugged, Status, IsHeld, ReadFails, FileFails, limit, IsImageFor, RefusesImage, Fills, RefusesInput, HasInput, IsStream, HasStream, StreamFails, HasPair, PairFails}
+use Rattle.tta_code.specs.Cycle.{Outcome}
+use Rattle.tta_debug.specs.Debugged.{session as replies_of}
 use Rattle.tta_debug.specs.Scripts.{lines_of}
-use Rattle.tta_given.specs.declared.status.Status.{Status}
 use Rattle.tta_given.specs.declared.status.Status.TheVariants as status
-use Rattle.tta_given.specs.Held.{IsHeld, ReadFails, FileFails, limit}
-use Rattle.tta_given.specs.Images.{IsImageFor, RefusesImage}
-use Rattle.tta_given.specs.Inputs.{Fills, RefusesInput, HasInput, IsStream, HasStream, StreamFails}
-use Rattle.tta_given.specs.Pairs.{HasPair, PairFails}
 
 -- ---- what was read
 

@@ -1,14 +1,6 @@
 -- What the command `dis` does, and why it does not.
 use Rattle.std.specs.Prelude.{◌≡◌, ℕ, List}
-use Rattle.tta_ports.specs.World.{World}
-use Rattle.tta_ops.specs.Units.{Units}
-use Rattle.tta_code.specs.Whole.{Whole}
-use Rattle.tta_asm.specs.Canonical.{canonical}
-use Rattle.tta_given.specs.declared.machine.MachineFile.{MachineFile}
-use Rattle.tta_given.specs.declared.status.Status.{Status}
-use Rattle.tta_given.specs.Held.{no_memory}
-use Rattle.tta_given.specs.Images.{IsImageFor, RefusesImage}
-use Rattle.tta_given.specs.Ends.{Writes}
+use Rattle.tta_tool.specs.Cited.{World, Units, Whole, canonical, MachineFile, Status, no_memory, IsImageFor, RefusesImage, Writes}
 
 -- bytes are the canonical text of code with data for a machine
 abbrev pub IsShown : Units → MachineFile → Whole → (bytes : List ℕ) → Type 0

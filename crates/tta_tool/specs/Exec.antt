@@ -1,15 +1,7 @@
 -- What the command `exec` does, and why it does not.
 use Rattle.std.specs.Prelude.{ℕ, List, Option}
-use Rattle.tta_ports.specs.World.{World}
-use Rattle.tta_ports.specs.Output.{Output}
-use Rattle.tta_ops.specs.Units.{Units}
-use Rattle.tta_program.specs.Program.{Program}
-use Rattle.tta_agree.specs.Agrees.{program_at}
-use Rattle.tta_given.specs.declared.machine.MachineFile.{MachineFile}
-use Rattle.tta_given.specs.declared.status.Status.{Status}
-use Rattle.tta_given.specs.Programs.{IsProgramFor, RefusesProgramFor}
+use Rattle.tta_tool.specs.Cited.{World, Output, Units, Program, program_at, MachineFile, Status, IsProgramFor, RefusesProgramFor, PairRuns}
 use Rattle.tta_tool.specs.Steps.{ended_of, run_text}
-use Rattle.tta_given.specs.Runs.{PairRuns}
 use Rattle.tta_tool.specs.Runs.{ReportEnds}
 
 -- how a program reports from these data words and with this input: from the state to which it has come after so many steps, its

@@ -1,15 +1,7 @@
 -- What the command `ifconv` does, and why it does not.
 use Rattle.std.specs.Prelude.{◌≡◌, ◌⊎◌, ℕ, List}
-use Rattle.tta_ports.specs.World.{World, IsUntouched}
-use Rattle.tta_ops.specs.Units.{Units}
-use Rattle.tta_program.specs.Program.{Program}
-use Rattle.tta_tac.specs.Text.{ProgramText}
-use Rattle.tta_ifconv.specs.Converted.{Converted}
-use Rattle.tta_printed.specs.Printed.{printed}
-use Rattle.tta_given.specs.declared.status.Status.{Status}
-use Rattle.tta_given.specs.Held.{Held, FileFails, no_memory}
-use Rattle.tta_given.specs.Sources.{RefusesSource}
-use Rattle.tta_given.specs.Ends.{WritingEnds}
+use Rattle.tta_tool.specs.Cited.{World, IsUntouched, Units, Program, ProgramText, Converted, printed, Status, FileFails, no_memory, RefusesSource, WritingEnds}
+use Rattle.tta_given.specs.Held.{Held}
 
 -- bytes are the printed text of the program that a program is converted to
 pub record IsConvertedText (u : Units) (p : Program) (bytes : List ℕ) : Type 0 where

@@ -1,3 +1,4 @@
+pub mod Cited
 pub mod Build
 pub mod BuildConverted
 pub mod Ifconv

@@ -1,6 +1,6 @@
 -- The numbers among the words of a command.
 use Rattle.std.specs.Prelude.{ℕ, ◌^◌, ◌==◌, if◌then◌else◌, List, Option, Some, None, option_and_then}
-use Rattle.tta_text.specs.Numbers.{digits_of}
+use Rattle.tta_tool.specs.Cited.{digits_of}
 
 -- the seed of a sample: one to ten decimal digits below 2 ^ 32
 abbrev pub seed_of : List ℕ → Option ℕ

@@ -4,8 +4,7 @@ use Rattle.std.specs.Str.{bytes_eq}
 use Rattle.std.specs.String.{string_bytes}
 use Rattle.tta_tool.specs.declared.request.Request.{Request as Asked}
 use Rattle.tta_tool.specs.declared.request.Request.TheVariants as for
-use Rattle.tta_given.specs.Runs.{bound_of}
-use Rattle.tta_network.specs.Request.{rounds_of, is_net}
+use Rattle.tta_tool.specs.Cited.{bound_of, rounds_of, is_net}
 use Rattle.tta_tool.specs.Numbers.{seed_of, lines_of}
 
 -- what can be asked for

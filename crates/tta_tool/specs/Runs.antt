@@ -1,9 +1,7 @@
 -- How a command that runs something reports.
 use Rattle.std.specs.Prelude.{◌≡◌, ℕ, List}
-use Rattle.tta_ports.specs.Output.{Output, IsQuiet, IsPut, IsCut}
-use Rattle.tta_run.specs.declared.ended.Ended.{Ended}
+use Rattle.tta_tool.specs.Cited.{Output, IsQuiet, IsPut, IsCut, Ended, Status}
 use Rattle.tta_run.specs.declared.ended.Ended.TheVariants as ended
-use Rattle.tta_given.specs.declared.status.Status.{Status}
 use Rattle.tta_given.specs.declared.status.Status.TheVariants as status
 
 -- a run stands so at its bound, and its text was put, or a prefix of it

@@ -1,13 +1,8 @@
 -- The output of a program grows with each step, and a state that waits stays and reports that.
 use Rattle.std.proofs.Common.{◌≡◌, ℕ, ◌+◌, Bool, true, false, if◌then◌else◌, List, [], ◌∷◌, ◌++◌, Option, Some, None, refl, sym, append-nil, ◌∙◌}
 use Rattle.std.specs.Option.{option_map_or}
-use Rattle.tta_ops.specs.Units.{Units}
-use Rattle.tta_program.specs.declared.step.Step.{Step}
-use Rattle.tta_program.specs.declared.step.Step.TheVariants.{Put, When, Invoke, Return, End}
-use Rattle.tta_program.specs.Program.{Program}
-use Rattle.tta_program.specs.Sequential.{State, Frame, Outcome, Running, Halted, Waiting, next, next_of, go_on, goes_through, waits, carry_out, returns, take_value, assigns, goes_to, operand, holds, step_at}
-use Rattle.tta_run.specs.Meaning.{OutputGrows, WaitStays}
-use Rattle.tta_run.specs.Reports.{WaitReports}
+use Rattle.tta_tool.specs.Cited.{Units, Step, Put, When, Invoke, Return, End, Program, Frame, go_on, goes_through, take_value, assigns, goes_to, operand, holds, step_at, OutputGrows, WaitStays, WaitReports}
+use Rattle.tta_program.specs.Sequential.{State, Outcome, Running, Halted, Waiting, next, next_of, waits, carry_out, returns}
 use Rattle.tta_tool.specs.Steps.{meaning_of, reports}
 
 -- one state's output begins another's

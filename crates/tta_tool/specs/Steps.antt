@@ -1,15 +1,11 @@
 -- The run of a program, move by move.
 use Rattle.std.specs.Prelude.{ℕ, Bool, List, ◌++◌}
 use Rattle.tta_print.specs.declared.line.Line.TheVariants as line
-use Rattle.tta_print.specs.Lines.{lines_text, word_lines}
-use Rattle.tta_ops.specs.Units.{Units}
-use Rattle.tta_program.specs.Program.{Program}
+use Rattle.tta_tool.specs.Cited.{lines_text, word_lines, Units, Program, Ended, Meaning, last_text}
 use Rattle.tta_program.specs.Sequential.{State, Outcome, Running, Halted, Waiting, next}
-use Rattle.tta_run.specs.declared.ended.Ended.{Ended}
 use Rattle.tta_run.specs.declared.ended.Ended.TheVariants as ended
-use Rattle.tta_run.specs.Meaning.{Meaning}
 use Rattle.tta_run.specs.Loops as loops
-use Rattle.tta_run.specs.Reports.{Reports, last_text}
+use Rattle.tta_run.specs.Reports.{Reports}
 use Rattle.tta_tacrun.specs.Run.{Run, Stands}
 
 -- a program, and how many data words there are

@@ -2,17 +2,10 @@
 use Rattle.std.proofs.Common.{◌≡◌, ◌+◌, true, false, ◌++◌, refl, ap, ◌∙◌, arith}
 use Rattle.std.specs.Prelude.{is_some}
 use Rattle.std.proofs.lemmas.Bool.{eq-eqb, ne_eqb}
-use Rattle.tta_ops.specs.Units.{Units}
-use Rattle.tta_arch.specs.Machine.{Machine}
-use Rattle.tta_code.specs.declared.code.Code.{Code}
-use Rattle.tta_code.specs.Cycle.{State, Halted as HasHalted, next, next_of}
-use Rattle.tta_sim.specs.declared.cycle_step.CycleStep.{CycleStep}
-use Rattle.tta_sim.specs.declared.cycle_step.CycleStep.TheVariants.{Ran, Halted, Waiting, Fault}
-use Rattle.tta_sim.specs.Held.{Held, Stands, GoesTo, IsAnswer, cycles_of}
-use Rattle.tta_places.specs.Writes.{cycle_writes}
+use Rattle.tta_waves.specs.Cited.{Units, Machine, Code, State, next, next_of, CycleStep, Ran, Held, Stands, GoesTo, IsAnswer, cycles_of, cycle_writes, is_made, went_on}
+use Rattle.tta_code.specs.Cycle.{Halted as HasHalted}
+use Rattle.tta_sim.specs.declared.cycle_step.CycleStep.TheVariants.{Halted, Waiting, Fault}
 use Rattle.tta_places.proofs.Onward.{written_on}
-use Rattle.tta_profile.specs.Counts.{is_made}
-use Rattle.tta_profile.specs.Feed.{went_on}
 use Rattle.tta_waves.specs.Steps.{Goes}
 
 module _ (u : Units) (m : Machine) (code : Code) where

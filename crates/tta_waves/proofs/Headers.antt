@@ -2,7 +2,7 @@
 use Rattle.std.proofs.Common.{◌≡◌, ℕ, List, ◌++◌, sym, ap, ◌∙◌}
 use Rattle.std.specs.Prelude.{codes}
 use Rattle.tta_list.proofs.Lists.{then_more}
-use Rattle.tta_arch.specs.Machine.{Machine}
+use Rattle.tta_waves.specs.Cited.{Machine}
 use Rattle.tta_waves.specs.declared.signal.Signal.{Signal}
 use Rattle.tta_waves.specs.Dump.{declarations_text, header_text}
 use Rattle.tta_waves.specs.Signals.{signals_of}

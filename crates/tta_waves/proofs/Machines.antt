@@ -3,10 +3,8 @@ use Rattle.std.proofs.Common.{◌≡◌, ◌≤◌, true, List, [], ◌∷◌, l
 use Rattle.std.specs.List.{list_all, All}
 use Rattle.std.proofs.lemmas.Bool.{and_parts}
 use Rattle.std.proofs.lemmas.List.Elements.{All-nil, All-cons}
-use Rattle.tta_arch.specs.declared.parts.Socket.{Socket}
+use Rattle.tta_waves.specs.Cited.{Socket, Machine, is_unit, IsMachine}
 use Rattle.tta_arch.specs.declared.parts.Unit.{Unit as OpUnit}
-use Rattle.tta_arch.specs.Machine.{Machine}
-use Rattle.tta_arch.specs.Rules.{is_unit, IsMachine}
 use Rattle.tta_arch.proofs.Sizes.{small_unit}
 
 -- each of some units has at most 32 operations

@@ -2,8 +2,7 @@
 use Rattle.std.proofs.Common.{◌≡◌, ℕ, suc, Bool, true, false, List, ◌++◌, sym, ap, ◌∙◌}
 use Rattle.std.specs.Prelude.{if◌then◌else◌}
 use Rattle.std.proofs.lemmas.List.{append_assoc}
-use Rattle.tta_code.specs.Cycle.{State, Outcome, Running}
-use Rattle.tta_profile.specs.Counts.{is_made}
+use Rattle.tta_waves.specs.Cited.{State, Outcome, Running, is_made}
 use Rattle.tta_waves.specs.declared.level.Level.{Level}
 use Rattle.tta_waves.specs.Dump.{state_text, last_text, states_text}
 

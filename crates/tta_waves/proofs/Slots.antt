@@ -1,10 +1,6 @@
 -- The levels of all signals.
 use Rattle.std.proofs.Common.{◌≡◌, List, Option, map, ap, ◌∙◌}
-use Rattle.tta_arch.specs.Machine.{Machine}
-use Rattle.tta_code.specs.declared.code.Instruction.{Instruction}
-use Rattle.tta_code.specs.declared.code.Move.{Move}
-use Rattle.tta_code.specs.Cycle.{State}
-use Rattle.tta_places.specs.Carried.{coming, slots_of}
+use Rattle.tta_waves.specs.Cited.{Machine, Instruction, Move, State, coming, slots_of}
 use Rattle.tta_waves.specs.declared.level.Level.{Level}
 use Rattle.tta_waves.specs.declared.signal.Signal.{Signal}
 use Rattle.tta_waves.specs.Levels.{level_in, levels_in}

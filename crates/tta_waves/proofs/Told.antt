@@ -3,12 +3,8 @@ use Rattle.std.proofs.Common.{◌≡◌, ℕ, zero, suc, ◌+◌, ◌<◌, ◌�
 use Rattle.std.specs.List.{AllByRecursion, flat_map, enumerate_from, range_with_len, list_all}
 use Rattle.std.proofs.lemmas.Bool.{and_parts, lt-ltb}
 use Rattle.tta_list.proofs.Lists.{all_append}
-use Rattle.tta_arch.specs.declared.parts.Bus.{Bus}
-use Rattle.tta_arch.specs.declared.parts.File.{File}
-use Rattle.tta_arch.specs.declared.parts.ImmUnit.{ImmUnit}
+use Rattle.tta_waves.specs.Cited.{File, ImmUnit, Machine, IsMachine, is_bus, is_file, is_imm, is_unit}
 use Rattle.tta_arch.specs.declared.parts.Unit.{Unit as OpUnit}
-use Rattle.tta_arch.specs.Machine.{Machine}
-use Rattle.tta_arch.specs.Rules.{IsMachine, is_bus, is_file, is_imm, is_unit}
 use Rattle.tta_arch.proofs.Sizes.{small_file, small_imm}
 use Rattle.tta_waves.specs.declared.signal.Signal.{Signal}
 use Rattle.tta_waves.specs.declared.signal.Signal.TheVariants.{Starts, Register, Immediate}

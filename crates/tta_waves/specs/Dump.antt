@@ -2,10 +2,8 @@
 use Rattle.std.specs.Prelude.{ℕ, zero, suc, ◌+◌, ◌/◌, ◌%◌, ◌==◌, nat_lt, Bool, true, false, if◌then◌else◌, List, [], ◌++◌, Option, None, Some, slice_get, codes, decimal}
 use Rattle.std.specs.Option.{option_map_or}
 use Rattle.std.specs.List.{flat_map, enumerate_from}
-use Rattle.tta_arch.specs.Machine.{Machine}
-use Rattle.tta_code.specs.Cycle.{State, Outcome, Running, Halted, Waiting, Fault}
-use Rattle.tta_names.specs.Names.{signal_name}
-use Rattle.tta_profile.specs.Counts.{is_made}
+use Rattle.tta_waves.specs.Cited.{Machine, State, Outcome, Running, signal_name, is_made}
+use Rattle.tta_code.specs.Cycle.{Halted, Waiting, Fault}
 use Rattle.tta_waves.specs.declared.level.Level.{Level}
 use Rattle.tta_waves.specs.declared.signal.Signal.{Signal}
 use Rattle.tta_waves.specs.Signals.{named, bits_of, signals_of}

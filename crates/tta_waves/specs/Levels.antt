@@ -2,15 +2,8 @@
 use Rattle.std.specs.Prelude.{ℕ, ◌==◌, Bool, false, ◌&&◌, if◌then◌else◌, List, map, Option, Some, None, slice_index_or}
 use Rattle.std.specs.Option.{option_map_or}
 use Rattle.std.specs.List.{list_any}
-use Rattle.tta_arch.specs.declared.ends.Dest.{Dest}
+use Rattle.tta_waves.specs.Cited.{Dest, Machine, KeptReg, KeptImm, KeptOperand, KeptRa, kept, is_active, Move, Instruction, State, read_source, effect_of, port, is_halted, carried, coming, slots_of}
 use Rattle.tta_arch.specs.declared.ends.Dest.TheVariants as dest
-use Rattle.tta_arch.specs.Machine.{Machine}
-use Rattle.tta_arch.specs.Effects.{KeptReg, KeptImm, KeptOperand, KeptRa, kept, is_active}
-use Rattle.tta_code.specs.declared.code.Move.{Move}
-use Rattle.tta_code.specs.declared.code.Instruction.{Instruction}
-use Rattle.tta_code.specs.Cycle.{State, read_source, effect_of, port}
-use Rattle.tta_sim.specs.Held.{is_halted}
-use Rattle.tta_places.specs.Carried.{carried, coming, slots_of}
 use Rattle.tta_waves.specs.declared.level.Level.{Level}
 use Rattle.tta_waves.specs.declared.signal.Signal.{Signal}
 use Rattle.tta_waves.specs.declared.signal.Signal.TheVariants.{Address, Halted, Acts, Carried, Starts, Operand, Shown, Register, Immediate, ReturnAddress}

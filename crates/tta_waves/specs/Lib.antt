@@ -1,3 +1,4 @@
+pub mod Cited
 pub mod Signals
 pub mod Levels
 pub mod Dump

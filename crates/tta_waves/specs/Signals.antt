@@ -1,13 +1,9 @@
 -- Which signals of a machine a dump tells.
 use Rattle.std.specs.Prelude.{ℕ, ◌==◌, Bool, not, List, [], ◌∷◌, ◌++◌, map, length}
 use Rattle.std.specs.List.{flat_map, enumerate_from, range_with_len}
-use Rattle.tta_arch.specs.declared.parts.Bus.{Bus}
-use Rattle.tta_arch.specs.declared.parts.File.{File}
-use Rattle.tta_arch.specs.declared.parts.ImmUnit.{ImmUnit}
+use Rattle.tta_waves.specs.Cited.{Bus, File, ImmUnit, Machine, KeptReg, KeptImm, KeptOperand, KeptRa, width_of, Pc, Keeps, Port, Word}
 use Rattle.tta_arch.specs.declared.parts.Unit.{Unit as OpUnit}
-use Rattle.tta_arch.specs.Machine.{Machine}
-use Rattle.tta_arch.specs.Effects.{KeptReg, KeptImm, KeptOperand, KeptRa, width_of}
-use Rattle.tta_hardware.specs.Signals.{Signal as Named, Pc, HasHalted, Keeps, Port, Word, Acts as DoesAct, Starts as DoesStart}
+use Rattle.tta_hardware.specs.Signals.{Signal as Named, HasHalted, Acts as DoesAct, Starts as DoesStart}
 use Rattle.tta_waves.specs.declared.signal.Signal.{Signal}
 use Rattle.tta_waves.specs.declared.signal.Signal.TheVariants.{Address, Halted, Acts, Carried, Starts, Operand, Shown, Register, Immediate, ReturnAddress}
 

@@ -1,9 +1,6 @@
 -- What a dump of a run is.
 use Rattle.std.specs.Prelude.{ℕ, nat_lt, if◌then◌else◌, List, [], ◌++◌}
-use Rattle.tta_ops.specs.Units.{Units}
-use Rattle.tta_arch.specs.Machine.{Machine}
-use Rattle.tta_code.specs.declared.code.Code.{Code}
-use Rattle.tta_code.specs.Cycle.{State, next}
+use Rattle.tta_waves.specs.Cited.{Units, Machine, Code, State, next}
 use Rattle.tta_waves.specs.Levels.{levels_in}
 use Rattle.tta_waves.specs.Dump.{header_text, states_text}
 

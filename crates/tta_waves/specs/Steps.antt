@@ -1,11 +1,8 @@
 -- What became of a cycle.
 use Rattle.std.specs.Prelude.{◌≡◌, ℕ, Bool, true, false, List, ◌++◌, Option, None, Some}
-use Rattle.tta_list.specs.Input.{left}
-use Rattle.tta_code.specs.Cycle.{State, Outcome, Running, Halted, Waiting, Fault}
-use Rattle.tta_sim.specs.declared.cycle_step.CycleStep.{CycleStep}
-use Rattle.tta_sim.specs.declared.cycle_step.CycleStep.TheVariants.{Ran, Halted as HadHalted, Waiting as Waits, Fault as Faults}
-use Rattle.tta_profile.specs.Counts.{is_made}
-use Rattle.tta_profile.specs.Feed.{went_on}
+use Rattle.tta_waves.specs.Cited.{left, State, Outcome, Running, CycleStep, Ran, is_made, went_on}
+use Rattle.tta_code.specs.Cycle.{Halted, Waiting, Fault}
+use Rattle.tta_sim.specs.declared.cycle_step.CycleStep.TheVariants.{Halted as HadHalted, Waiting as Waits, Fault as Faults}
 use Rattle.tta_waves.specs.declared.level.Level.{Level}
 use Rattle.tta_waves.specs.Dump.{state_text}
 

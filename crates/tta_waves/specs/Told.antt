@@ -1,7 +1,6 @@
 -- Which signals a run can tell.
 use Rattle.std.specs.Prelude.{ℕ, Bool, true, nat_lt}
-use Rattle.tta_arch.specs.Effects.{KeptReg, KeptImm, KeptOperand}
-use Rattle.tta_sim.specs.Places.{is_place}
+use Rattle.tta_waves.specs.Cited.{KeptReg, KeptImm, KeptOperand, is_place}
 use Rattle.tta_waves.specs.declared.signal.Signal.{Signal}
 use Rattle.tta_waves.specs.declared.signal.Signal.TheVariants.{Address, Halted, Acts, Carried, Starts, Operand, Shown, Register, Immediate, ReturnAddress}
 

@@ -1,5 +1,5 @@
 use Rattle.std.specs.Prelude.{nat_lt}
-use Rattle.tta_flow.specs.Growth.{Sets}
+use Rattle.tta_alloc.specs.Cited.{Sets}
 use Rattle.tta_alloc.proofs.body.add_below.Given as goal
 
 abbrev pub invariant-loop-x : goal.invariant-loop-x

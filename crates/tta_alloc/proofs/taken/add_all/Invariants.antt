@@ -1,6 +1,5 @@
 use Rattle.std.proofs.Common.{take}
-use Rattle.tta_flow.specs.Growth.{Sets}
-use Rattle.tta_flow.specs.Search.{is_found}
+use Rattle.tta_alloc.specs.Cited.{Sets, is_found}
 use Rattle.tta_alloc.proofs.taken.add_all.Given as goal
 
 abbrev pub invariant-loop-place : goal.invariant-loop-place

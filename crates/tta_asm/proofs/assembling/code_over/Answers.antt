@@ -1,5 +1,5 @@
 use Rattle.std.proofs.Common.{drop}
-use Rattle.tta_ops.specs.Set.{stated}
+use Rattle.tta_asm.specs.Cited.{stated}
 use Rattle.tta_asm.specs.Drafts.{draft_seen}
 use Rattle.tta_asm.specs.Pieces.{pieces_of}
 use Rattle.tta_asm.proofs.LegalCode.{taken_legal}

@@ -1,5 +1,5 @@
 use Rattle.std.proofs.Common.{◌≡◌, ◌+◌, ◌^◌, ◌≤◌, length}
-use Rattle.tta_ops.specs.Set.{stated}
+use Rattle.tta_asm.specs.Cited.{stated}
 use Rattle.tta_asm.specs.Assembly.{take_pieces}
 use Rattle.tta_asm.specs.Drafts.{draft_seen}
 use Rattle.tta_asm.proofs.assembling.take_rest.Given as goal

@@ -1,7 +1,7 @@
 use Rattle.std.proofs.Common.{◌≡◌, ℕ, true, ap, ◌∙◌, length, map, rules}
 use Rattle.std.specs.Prelude.{◌==◌}
 use Rattle.std.proofs.lemmas.List.{length-map}
-use Rattle.tta_arch.specs.Machine.{Machine}
+use Rattle.tta_asm.specs.Cited.{Machine}
 use Rattle.tta_asm.specs.Seen.{slot_seen}
 use Rattle.tta_asm.proofs.instruction.all_moves.Goals as goal
 

@@ -1,6 +1,6 @@
 use Rattle.std.proofs.Common.{None, map, length-append, arith}
 use Rattle.std.proofs.lemmas.Result.{err_from_is_err_and}
-use Rattle.tta_ops.specs.Set.{stated}
+use Rattle.tta_asm.specs.Cited.{stated}
 use Rattle.tta_asm.specs.declared.forms.SlotForm.{SlotForm}
 use Rattle.tta_asm.specs.Assembly.{moves_of}
 use Rattle.tta_asm.specs.Seen.{slot_seen}

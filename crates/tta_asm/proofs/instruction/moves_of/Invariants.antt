@@ -1,5 +1,5 @@
 use Rattle.std.proofs.Common.{◌≡◌, length, map, drop}
-use Rattle.tta_ops.specs.Set.{stated}
+use Rattle.tta_asm.specs.Cited.{stated}
 use Rattle.tta_asm.specs.Assembly.{moves_of}
 use Rattle.tta_asm.specs.Seen.{slot_seen}
 use Rattle.tta_asm.proofs.SlotWalks.{with_front}

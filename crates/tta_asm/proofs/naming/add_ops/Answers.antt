@@ -1,6 +1,4 @@
-use Rattle.tta_arch.specs.declared.parts.UnitOp.{UnitOp}
-use Rattle.tta_arch.specs.declared.parts.Op.TheVariants.{Ldw}
-use Rattle.tta_ops.specs.Set.{stated}
+use Rattle.tta_asm.specs.Cited.{UnitOp, Ldw, stated}
 use Rattle.tta_asm.proofs.MachineNames.{ops_more, ops_end}
 use Rattle.tta_asm.proofs.naming.add_ops.Goals as goal
 

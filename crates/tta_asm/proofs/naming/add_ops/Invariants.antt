@@ -1,6 +1,5 @@
 use Rattle.std.proofs.Common.{map, drop, ◌++◌}
-use Rattle.tta_arch.specs.declared.parts.UnitOp.{UnitOp}
-use Rattle.tta_ops.specs.Set.{stated}
+use Rattle.tta_asm.specs.Cited.{UnitOp, stated}
 use Rattle.tta_asm.specs.Parts.{by_place, op_name}
 use Rattle.tta_asm.specs.Table.{NameTheSame}
 use Rattle.tta_asm.proofs.naming.add_ops.Given as goal

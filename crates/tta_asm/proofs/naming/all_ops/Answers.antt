@@ -1,5 +1,5 @@
 use Rattle.std.proofs.Common.{arith, length-append}
-use Rattle.tta_ops.specs.Set.{stated}
+use Rattle.tta_asm.specs.Cited.{stated}
 use Rattle.tta_asm.proofs.MachineNames.{unit_there, unit_few, units_more, units_end}
 use Rattle.tta_asm.proofs.naming.all_ops.Goals as goal
 

@@ -1,5 +1,5 @@
 use Rattle.std.proofs.Common.{None, get_or, refl}
-use Rattle.tta_ops.specs.Set.{stated}
+use Rattle.tta_asm.specs.Cited.{stated}
 use Rattle.tta_asm.specs.Printing.{later_slot_text}
 use Rattle.tta_asm.proofs.SlotTexts.{text_more}
 use Rattle.tta_asm.proofs.print.push_more_slots.Goals as goal

@@ -1,6 +1,6 @@
 use Rattle.std.proofs.Common.{◌≡◌, ◌++◌, take}
 use Rattle.std.specs.List.{flat_map}
-use Rattle.tta_ops.specs.Set.{stated}
+use Rattle.tta_asm.specs.Cited.{stated}
 use Rattle.tta_asm.specs.Printing.{later_slot_text}
 use Rattle.tta_asm.proofs.print.push_more_slots.Given as goal
 

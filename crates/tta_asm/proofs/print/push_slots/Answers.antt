@@ -1,4 +1,4 @@
-use Rattle.tta_ops.specs.Set.{stated}
+use Rattle.tta_asm.specs.Cited.{stated}
 use Rattle.tta_asm.proofs.SlotTexts.{slots_done}
 use Rattle.tta_asm.proofs.print.push_slots.Goals as goal
 

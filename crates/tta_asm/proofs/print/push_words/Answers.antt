@@ -1,4 +1,4 @@
-use Rattle.tta_ops.specs.Set.{stated}
+use Rattle.tta_asm.specs.Cited.{stated}
 use Rattle.tta_asm.specs.Canonical.{instruction_text}
 use Rattle.tta_asm.proofs.SlotTexts.{text_more}
 use Rattle.tta_asm.proofs.print.push_words.Goals as goal

@@ -1,12 +1,6 @@
 use Rattle.std.proofs.Common.{◌≡◌, List, true, sym, subst, IfOk}
 use Rattle.std.proofs.lemmas.Result.{IfOk-at_ok}
-use Rattle.tta_moves.specs.declared.items.BlockList.{BlockList}
-use Rattle.tta_moves.specs.declared.items.Item.{Item}
-use Rattle.tta_moves.specs.declared.items.Placed.{Placed}
-use Rattle.tta_moves.specs.Bounds.{Respects}
-use Rattle.tta_moves.specs.FirstFit.{IsFirstFit}
-use Rattle.tta_moves.specs.Slots.{is_list}
-use Rattle.tta_sched.specs.Room.{HasRoom}
+use Rattle.tta_build.specs.Cited.{BlockList, Item, Placed, Respects, IsFirstFit, is_list, HasRoom}
 use Rattle.tta_build.specs.Trail.{last_of}
 use Rattle.tta_build.proofs.choosing.fit_of.Goals as goal
 

@@ -1,5 +1,5 @@
 use Rattle.std.proofs.Common.{List, refl, subst}
-use Rattle.tta_moves.specs.declared.items.BlockList.{BlockList}
+use Rattle.tta_build.specs.Cited.{BlockList}
 use Rattle.tta_build.specs.Placing.{ArePlacements}
 use Rattle.tta_build.proofs.choosing.plan_lists.Goals as goal
 

@@ -1,5 +1,5 @@
 use Rattle.std.proofs.Common.{sym, ◌∙◌}
-use Rattle.tta_ops.specs.Set.{stated}
+use Rattle.tta_build.specs.Cited.{stated}
 use Rattle.tta_build.proofs.Offers.{first_same}
 use Rattle.tta_build.proofs.covered.assembled_by.Goals as goal
 

@@ -1,6 +1,6 @@
 use Rattle.std.proofs.Common.{sym, subst}
 use Rattle.std.proofs.lemmas.Result.{err_from_is_err_and, IfOk-at_ok}
-use Rattle.tta_ops.specs.Set.{stated}
+use Rattle.tta_build.specs.Cited.{stated}
 use Rattle.tta_build.specs.declared.homing.Homed.{Homed}
 use Rattle.tta_build.specs.declared.value.Assembled.{Assembled}
 use Rattle.tta_build.specs.Value.{IsHomedBest}

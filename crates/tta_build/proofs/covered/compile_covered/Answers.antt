@@ -1,4 +1,4 @@
-use Rattle.tta_ops.specs.Set.{stated}
+use Rattle.tta_build.specs.Cited.{stated}
 use Rattle.tta_build.proofs.Compiling.{with_choice, with_code, with_cause}
 use Rattle.tta_build.proofs.covered.compile_covered.Goals as goal
 

@@ -1,6 +1,6 @@
 use Rattle.std.proofs.Common.{rules}
 use Rattle.std.proofs.lemmas.List.Sorted.{IsNonDecreasingBy-from_sort, answers_always}
-use Rattle.tta_code.specs.declared.whole.Datum.{Datum}
+use Rattle.tta_build.specs.Cited.{Datum}
 use Rattle.tta_build.proofs.data_order.sort.Goals as goal
 
 pub returns-clause-ascend : goal.returns-clause-ascend

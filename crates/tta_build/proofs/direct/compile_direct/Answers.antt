@@ -1,7 +1,6 @@
 use Rattle.std.proofs.Common.{List, refl, subst}
 use Rattle.std.proofs.lemmas.Result.{err_from_is_err_and}
-use Rattle.tta_moves.specs.declared.items.Placed.{Placed}
-use Rattle.tta_link.specs.Linked.{IsLinked}
+use Rattle.tta_build.specs.Cited.{Placed, IsLinked}
 use Rattle.tta_build.proofs.Directs.{are_blocks, linked_for, cause_for}
 use Rattle.tta_build.proofs.direct.compile_direct.Goals as goal
 

@@ -1,5 +1,5 @@
 use Rattle.std.proofs.Common.{subst}
-use Rattle.tta_lower.specs.Statement.{IsCause}
+use Rattle.tta_build.specs.Cited.{IsCause}
 use Rattle.tta_build.proofs.Directs.{never_full}
 use Rattle.tta_build.proofs.direct.direct_lowered.Goals as goal
 

@@ -1,9 +1,6 @@
 use Rattle.std.proofs.Common.{◌≡◌, true, List, sym, subst}
 use Rattle.std.specs.List.{list_all}
-use Rattle.tta_moves.specs.declared.items.BlockList.{BlockList}
-use Rattle.tta_moves.specs.Slots.{is_list}
-use Rattle.tta_compose.specs.Linking.{AreFirstFits}
-use Rattle.tta_compose.specs.Room.{AreRoomy}
+use Rattle.tta_build.specs.Cited.{BlockList, is_list, AreFirstFits, AreRoomy}
 use Rattle.tta_build.proofs.Directs.{are_lists, direct_lists}
 use Rattle.tta_build.proofs.direct.direct_planned.Goals as goal
 

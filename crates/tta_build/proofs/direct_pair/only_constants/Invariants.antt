@@ -1,5 +1,5 @@
 use Rattle.std.proofs.Common.{◌≡◌, drop}
-use Rattle.tta_program.specs.Direct.{only_constants}
+use Rattle.tta_build.specs.Cited.{only_constants}
 use Rattle.tta_build.proofs.direct_pair.only_constants.Given as goal
 
 abbrev pub invariant-loop-k : goal.invariant-loop-k

@@ -1,6 +1,6 @@
 use Rattle.std.proofs.Common.{◌≡◌, ℕ, ◌+◌, drop, length}
 use Rattle.std.specs.List.{sum_by}
-use Rattle.tta_program.specs.declared.program.Proc.{Proc}
+use Rattle.tta_build.specs.Cited.{Proc}
 use Rattle.tta_build.proofs.homing.have_at_most.Given as goal
 
 abbrev pub invariant-loop-q : goal.invariant-loop-q

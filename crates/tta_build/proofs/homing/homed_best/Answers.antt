@@ -1,8 +1,7 @@
 use Rattle.std.proofs.Common.{◌≡◌, Option, sym, subst}
 use Rattle.std.specs.Prelude.{IfSome}
 use Rattle.std.proofs.lemmas.Result.{IfOk-at_ok}
-use Rattle.tta_ops.specs.Set.{stated}
-use Rattle.tta_alloc.specs.declared.homes.Homes.{Homes}
+use Rattle.tta_build.specs.Cited.{stated, Homes}
 use Rattle.tta_build.specs.declared.register.Sharing.TheVariants.{Least}
 use Rattle.tta_build.specs.declared.homing.Homed.{Homed}
 use Rattle.tta_build.specs.Sharing.{AreHomesBy}

@@ -1,12 +1,7 @@
 use Rattle.std.proofs.Common.{ℕ, List, sym, ap, subst}
 use Rattle.std.proofs.lemmas.Result.{IfOk-at_ok}
-use Rattle.tta_ops.specs.Set.{stated}
-use Rattle.tta_arch.specs.Machine.{Machine}
-use Rattle.tta_alloc.specs.Allotted.{AreAllotted}
+use Rattle.tta_build.specs.Cited.{stated, Machine, AreAllotted, Rir, BlockList, selected}
 use Rattle.tta_lower.specs.Statement.{IsCodeOf}
-use Rattle.tta_rcode.specs.declared.code.Rir.{Rir}
-use Rattle.tta_moves.specs.declared.items.BlockList.{BlockList}
-use Rattle.tta_select.specs.Select.{selected}
 use Rattle.tta_build.specs.declared.choosing.Planned.{Planned}
 use Rattle.tta_build.specs.Placing.{ArePlanned}
 use Rattle.tta_build.proofs.CoveredCode.{lowered_with, blocks_fit, selected_with, selected_lists}

@@ -1,5 +1,5 @@
 use Rattle.std.proofs.Common.{◌≡◌, ◌+◌, ◌≤◌, drop, ◌*◌}
-use Rattle.tta_link.specs.Blocks.{total_length}
+use Rattle.tta_build.specs.Cited.{total_length}
 use Rattle.tta_build.proofs.homing.total_length.Given as goal
 
 abbrev pub invariant-loop-p : goal.invariant-loop-p

@@ -1,6 +1,5 @@
 use Rattle.std.proofs.Common.{◌≡◌, drop}
-use Rattle.tta_ops.specs.Set.{stated}
-use Rattle.tta_compose.specs.Needs.{is_served, first_failing}
+use Rattle.tta_build.specs.Cited.{stated, is_served, first_failing}
 use Rattle.tta_build.proofs.needs.first_unserved.Given as goal
 
 abbrev pub invariant-loop-k : goal.invariant-loop-k

@@ -1,7 +1,5 @@
 use Rattle.std.proofs.Common.{◌≡◌, drop}
-use Rattle.tta_ops.specs.Set.{stated}
-use Rattle.tta_arch.specs.Effects.{first_some}
-use Rattle.tta_compose.specs.Needs.{unoffered_in}
+use Rattle.tta_build.specs.Cited.{stated, first_some, unoffered_in}
 use Rattle.tta_build.proofs.needs.unoffered_among.Given as goal
 
 abbrev pub invariant-loop-q : goal.invariant-loop-q

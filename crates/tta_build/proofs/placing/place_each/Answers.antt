@@ -1,8 +1,6 @@
 use Rattle.std.proofs.Common.{ap, arith, length, slice_get, ◌∙◌, refl}
 use Rattle.std.proofs.lemmas.Option.{slice_get_read}
-use Rattle.tta_moves.specs.Bounds.{Respects}
-use Rattle.tta_moves.specs.FirstFit.{IsFirstFit}
-use Rattle.tta_sched.specs.Room.{HasRoom}
+use Rattle.tta_build.specs.Cited.{Respects, IsFirstFit, HasRoom}
 use Rattle.tta_build.proofs.Placements.{one_more, more_count}
 use Rattle.tta_build.proofs.placing.place_each.Goals as goal
 

@@ -1,7 +1,5 @@
 use Rattle.std.proofs.Common.{◌≡◌, length}
-use Rattle.tta_moves.specs.Bounds.{Respects}
-use Rattle.tta_moves.specs.FirstFit.{IsFirstFit}
-use Rattle.tta_sched.specs.Room.{HasRoom}
+use Rattle.tta_build.specs.Cited.{Respects, IsFirstFit, HasRoom}
 use Rattle.tta_build.proofs.Placements.{SoFar}
 use Rattle.tta_build.proofs.placing.place_each.Given as goal
 

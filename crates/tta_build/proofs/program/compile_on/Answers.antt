@@ -1,4 +1,4 @@
-use Rattle.tta_ops.specs.Set.{stated}
+use Rattle.tta_build.specs.Cited.{stated}
 use Rattle.tta_build.proofs.Compiling.{of_direct, code_of_direct}
 use Rattle.tta_build.proofs.program.compile_on.Goals as goal
 

@@ -1,8 +1,7 @@
 use Rattle.std.proofs.Common.{◌≡◌, Option, sym, subst}
 use Rattle.std.specs.Prelude.{IfSome}
 use Rattle.std.proofs.lemmas.Result.{IfOk-at_ok}
-use Rattle.tta_moves.specs.declared.items.BlockList.{BlockList}
-use Rattle.tta_optim.specs.Kept.{IsStandIn}
+use Rattle.tta_build.specs.Cited.{BlockList, IsStandIn}
 use Rattle.tta_build.specs.declared.trail.Rounds.{Rounds}
 use Rattle.tta_build.specs.Trail.{AreRounds}
 use Rattle.tta_build.proofs.pushing.push_served.Goals as goal

@@ -2,10 +2,9 @@
 use Rattle.std.proofs.Common.{ap, sym, ◌∙◌}
 use Rattle.std.specs.Prelude.{◌&&◌, not, Bool}
 use Rattle.std.specs.List.{list_any}
-use Rattle.tta_arch.specs.Effects.{KeptOperand}
+use Rattle.tta_check.specs.Cited.{KeptOperand, effects_of}
 use Rattle.tta_check.specs.Facts.{Unset}
 use Rattle.tta_check.specs.Causes.{unset_operand}
-use Rattle.tta_code.specs.Cycle.{effects_of}
 use Rattle.tta_check.specs.Rows.{tells}
 use Rattle.tta_check.specs.Codes.{in_slot, gives_in}
 use Rattle.tta_check.proofs.Slots.{operand_slot}

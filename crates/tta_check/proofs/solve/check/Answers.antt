@@ -1,5 +1,5 @@
 use Rattle.std.proofs.Common.{◌≡◌, length, refl, ap, subst, ◌∙◌, rules}
-use Rattle.tta_arch.specs.Rules.{IsMachine}
+use Rattle.tta_check.specs.Cited.{IsMachine}
 use Rattle.tta_check.specs.Carries.{Carried}
 use Rattle.tta_check.specs.Joined.{IsFirst}
 use Rattle.tta_check.proofs.Solving.{can_carry, solving_on, solving_ends, solved}

@@ -1,7 +1,6 @@
 use Rattle.std.proofs.Common.{refl, ap, subst, ◌∙◌}
 use Rattle.std.proofs.lemmas.Result.{err_from_is_err_and}
-use Rattle.tta_arch.specs.Machine.{Machine}
-use Rattle.tta_arch.specs.Rules.{IsMachine}
+use Rattle.tta_code.specs.Cited.{Machine, IsMachine}
 use Rattle.tta_code.proofs.Walk.{walk_start, walk_empty, walk_move, walk_stop, walk_end, few_before, tells_legal, illegal_from_some}
 use Rattle.tta_code.proofs.legality.legal.Goals as goal
 use Rattle.tta_code.proofs.legality.legal.Goals.{in-Some+in_ok-check_move, in_default}

@@ -1,6 +1,6 @@
 use Rattle.std.proofs.Common.{ap, ◌∙◌}
 use Rattle.tta_list.proofs.Lists.{item_there}
-use Rattle.tta_arch.specs.Machine.{Machine}
+use Rattle.tta_code.specs.Cited.{Machine}
 use Rattle.tta_code.proofs.room.has_read_left.Goals as goal
 
 pub returns-in-Some : goal.returns-in-Some

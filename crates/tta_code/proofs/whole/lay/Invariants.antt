@@ -1,5 +1,5 @@
 use Rattle.std.proofs.Common.{◌≡◌, drop, map}
-use Rattle.tta_list.specs.Laid.{over}
+use Rattle.tta_code.specs.Cited.{over}
 use Rattle.tta_code.specs.Whole.{word_of}
 use Rattle.tta_code.proofs.whole.lay.Given as goal
 

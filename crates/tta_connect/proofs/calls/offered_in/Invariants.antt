@@ -1,5 +1,5 @@
 use Rattle.std.proofs.Common.{◌≡◌, drop}
-use Rattle.tta_arch.specs.Joins.{has_bit}
+use Rattle.tta_connect.specs.Cited.{has_bit}
 use Rattle.tta_connect.specs.Coverage.{first_by, call_in}
 use Rattle.tta_connect.proofs.calls.offered_in.Given as goal
 

@@ -1,5 +1,5 @@
 use Rattle.std.proofs.Common.{ap, ◌∙◌}
-use Rattle.tta_arch.specs.Machine.{Machine}
+use Rattle.tta_connect.specs.Cited.{Machine}
 use Rattle.tta_connect.proofs.Firsts.{homes_more}
 use Rattle.tta_connect.proofs.homes.push_files.Goals as goal
 

@@ -1,7 +1,6 @@
 use Rattle.std.proofs.Common.{ℕ, true, false, sym, ap, ◌∙◌}
 use Rattle.std.specs.Prelude.{◌==◌}
-use Rattle.tta_arch.specs.Joins.{has_bit}
-use Rattle.tta_arch.specs.Machine.{Machine}
+use Rattle.tta_connect.specs.Cited.{has_bit, Machine}
 use Rattle.tta_arch.proofs.SetLemmas.{below-more, no_more}
 use Rattle.tta_connect.specs.Coverage.{is_usable_at}
 use Rattle.tta_connect.proofs.UnitSets.{unit_at, units_all}

@@ -1,6 +1,6 @@
 use Rattle.std.proofs.Common.{◌≡◌, ℕ}
 use Rattle.std.specs.Prelude.{nat_lt, ◌&&◌}
-use Rattle.tta_arch.specs.Joins.{has_bit}
+use Rattle.tta_connect.specs.Cited.{has_bit}
 use Rattle.tta_connect.specs.Coverage.{is_usable_at}
 use Rattle.tta_connect.proofs.units.usable_units.Given as goal
 

@@ -1,7 +1,6 @@
 use Rattle.std.proofs.Common.{true, false, nat_lt, Some, sym, ap, ◌∙◌}
 use Rattle.std.proofs.lemmas.Bool.{lt-ltb}
-use Rattle.tta_arch.specs.declared.parts.File.{File}
-use Rattle.tta_arch.specs.Machine.{Machine}
+use Rattle.tta_debug.specs.Cited.{File, Machine}
 use Rattle.tta_debug.specs.Debugged.{value}
 use Rattle.tta_debug.proofs.Seeing.{register_is, is_not_below}
 use Rattle.tta_debug.proofs.query.register.Goals as goal

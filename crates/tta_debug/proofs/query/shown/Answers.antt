@@ -1,6 +1,6 @@
 use Rattle.std.proofs.Common.{true, false, is_some, Some, sym, ap, ◌∙◌}
 use Rattle.tta_arch.specs.declared.parts.Unit.{Unit as OpUnit}
-use Rattle.tta_arch.specs.Machine.{Machine}
+use Rattle.tta_debug.specs.Cited.{Machine}
 use Rattle.tta_debug.specs.Debugged.{value}
 use Rattle.tta_debug.proofs.Seeing.{shown_is}
 use Rattle.tta_debug.proofs.query.shown.Goals as goal

@@ -1,6 +1,5 @@
 use Rattle.std.proofs.Common.{slice_get, refl, sym, ap, ◌∙◌, true≢false, subst}
-use Rattle.tta_ops.specs.Set.{stated}
-use Rattle.tta_code.specs.Cycle.{next}
+use Rattle.tta_debug.specs.Cited.{stated, next}
 use Rattle.tta_debug.specs.Debugged.{is_running}
 use Rattle.tta_debug.specs.Sessions.{Follows, Cycles}
 use Rattle.tta_debug.proofs.Cycling.{made_by, on_by, cut_by, over_by}

@@ -1,7 +1,5 @@
 use Rattle.std.proofs.Common.{◌&&◌, ap, ◌∙◌, subst}
-use Rattle.tta_ops.specs.Set.{stated}
-use Rattle.tta_print.specs.Replies.{reply_text}
-use Rattle.tta_code.specs.Cycle.{next}
+use Rattle.tta_debug.specs.Cited.{stated, reply_text, next}
 use Rattle.tta_debug.specs.declared.told.Told.TheVariants.{More}
 use Rattle.tta_debug.specs.Debugged.{is_at_stop, cycles, stopped, say}
 use Rattle.tta_debug.specs.Sessions.{SaysLine}

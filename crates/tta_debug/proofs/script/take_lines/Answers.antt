@@ -1,13 +1,9 @@
 use Rattle.std.proofs.Common.{ℕ, true, List, refl, ◌∙◌, subst, arith}
 use Rattle.std.specs.Prelude.{Ok, Result}
 use Rattle.std.proofs.lemmas.Grind.{common_steps}
-use Rattle.tta_ops.specs.Set.{stated}
-use Rattle.tta_ops.specs.Units.{Units}
-use Rattle.tta_arch.specs.Machine.{Machine}
-use Rattle.tta_code.specs.declared.code.Code.{Code}
+use Rattle.tta_debug.specs.Cited.{stated, Units, Machine, Code, Output}
 use Rattle.tta_debug.specs.Debugged.{Debugged, Done, command, session}
 use Rattle.tta_debug.specs.Sessions.{Follows}
-use Rattle.tta_ports.specs.Output.{Output}
 use Rattle.tta_debug.specs.Scripts.{TakesLine, lines_of, script_says}
 use Rattle.tta_debug.proofs.Folding.{taken_first, taken_on, taken_bye, taken_cut, taken_last, script_cut, no_lines, replied_first, replied_on, replied_stopped, script_stopped}
 use Rattle.tta_debug.proofs.script.take_lines.Given as given

@@ -1,6 +1,5 @@
 use Rattle.std.proofs.Common.{◌≡◌, ◌+◌, ◌*◌, ◌<◌, ◌≤◌, ◌^◌, length}
-use Rattle.tta_ops.specs.Set.{stated}
-use Rattle.tta_sim.specs.Held.{IsRunOf}
+use Rattle.tta_debug.specs.Cited.{stated, IsRunOf}
 use Rattle.tta_debug.specs.Debugged.{Debugged}
 use Rattle.tta_debug.specs.Sessions.{Follows}
 use Rattle.tta_debug.specs.Scripts.{lines_of}

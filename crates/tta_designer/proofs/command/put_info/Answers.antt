@@ -1,6 +1,4 @@
-use Rattle.tta_ops.specs.Set.{stated}
-use Rattle.tta_given.specs.Held.{no_memory}
-use Rattle.tta_given.specs.Images.{IsImageFor, RefusesImage}
+use Rattle.tta_designer.specs.Cited.{stated, no_memory, IsImageFor, RefusesImage}
 use Rattle.tta_given.proofs.Endings.{puts}
 use Rattle.tta_designer.specs.Command.{IsTold}
 use Rattle.tta_designer.proofs.command.put_info.Goals as goal

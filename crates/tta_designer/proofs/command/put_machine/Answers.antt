@@ -1,6 +1,5 @@
 use Rattle.std.proofs.Common.{◌≡◌, inr}
-use Rattle.tta_ops.specs.Set.{stated}
-use Rattle.tta_given.specs.Held.{no_memory}
+use Rattle.tta_designer.specs.Cited.{stated, no_memory}
 use Rattle.tta_given.proofs.Endings.{text_ends}
 use Rattle.tta_designer.specs.Views.{machine_view}
 use Rattle.tta_designer.proofs.command.put_machine.Goals as goal

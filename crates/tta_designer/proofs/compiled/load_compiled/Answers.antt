@@ -1,8 +1,5 @@
 use Rattle.std.proofs.Common.{ℕ, List, IfOk, ap, ◌∙◌, length, subst}
-use Rattle.tta_ops.specs.Set.{stated}
-use Rattle.tta_program.specs.Program.{data_of}
-use Rattle.tta_code.specs.Cycle.{start}
-use Rattle.tta_sim.specs.Held.{Stands}
+use Rattle.tta_designer.specs.Cited.{stated, data_of, start, Stands}
 use Rattle.tta_blocks.proofs.Legal.{stages_legal}
 use Rattle.tta_designer.proofs.compiled.load_compiled.Goals as goal
 use Rattle.tta_list.proofs.Sets.{over-length}

@@ -1,7 +1,4 @@
-use Rattle.tta_list.specs.Laid.{over}
-use Rattle.tta_ops.specs.Set.{stated}
-use Rattle.tta_program.specs.Program.{data_of}
-use Rattle.tta_code.specs.Cycle.{start}
+use Rattle.tta_designer.specs.Cited.{over, stated, data_of, start}
 use Rattle.tta_designer.specs.Stages.{IsCauseOf}
 use Rattle.tta_designer.specs.Runs.{IsCompiledShown, IsProgramShown}
 use Rattle.tta_designer.proofs.Made.{made_of}

@@ -1,4 +1,4 @@
-use Rattle.tta_ops.specs.Set.{stated}
+use Rattle.tta_designer.specs.Cited.{stated}
 use Rattle.tta_blocks.proofs.Legal.{stages_legal}
 use Rattle.tta_designer.proofs.drawing.draw_compiled.Goals as goal
 

@@ -1,11 +1,8 @@
 use Rattle.std.proofs.Common.{ℕ, map, sym, ap, subst}
 use Rattle.std.proofs.lemmas.List.{length-map}
 use Rattle.std.specs.String.{string_bytes}
-use Rattle.tta_ops.specs.Set.{stated}
-use Rattle.tta_given.specs.Held.{no_memory}
-use Rattle.tta_given.specs.Ends.{TextEnds}
+use Rattle.tta_designer.specs.Cited.{stated, no_memory, TextEnds, cores_in, TakesCores}
 use Rattle.tta_given.proofs.Endings.{text_ends}
-use Rattle.tta_network.specs.CoreFiles.{cores_in, TakesCores}
 use Rattle.tta_designer.specs.Depths.{depths_in}
 use Rattle.tta_designer.specs.Joining.{IsNetText}
 use Rattle.tta_designer.proofs.Joined.{cores_shown}

@@ -1,9 +1,7 @@
 use Rattle.std.proofs.Common.{ℕ, List, Option, map, sym, ap, subst}
 use Rattle.std.proofs.lemmas.List.{length-map}
 use Rattle.std.specs.String.{string_bytes}
-use Rattle.tta_ops.specs.Set.{stated}
-use Rattle.tta_given.specs.Held.{IsTaken}
-use Rattle.tta_network.specs.CoreFiles.{cores_in, AreLinks}
+use Rattle.tta_designer.specs.Cited.{stated, IsTaken, cores_in, AreLinks}
 use Rattle.tta_designer.specs.Joining.{ShowsCores}
 use Rattle.tta_designer.proofs.Joined.{links_shown}
 use Rattle.tta_designer.proofs.joining.put_net.Goals as goal

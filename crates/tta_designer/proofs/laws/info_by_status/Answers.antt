@@ -1,11 +1,6 @@
 use Rattle.std.proofs.Common.{◌↔◌, ℕ, List, Some, refl, subst, inl, inr}
-use Rattle.tta_ports.specs.World.{World}
-use Rattle.tta_ports.specs.Output.{Output, IsPut, IsCut}
-use Rattle.tta_ops.specs.Units.{Units}
-use Rattle.tta_given.specs.declared.status.Status.{Status}
+use Rattle.tta_designer.specs.Cited.{World, Output, IsPut, IsCut, Units, Status, ReadFailed, IsTooLong, no_memory, IsImageFor, RefusesImage}
 use Rattle.tta_given.specs.declared.status.Status.TheVariants as status
-use Rattle.tta_given.specs.Held.{ReadFailed, IsTooLong, no_memory}
-use Rattle.tta_given.specs.Images.{IsImageFor, RefusesImage}
 use Rattle.tta_given.proofs.Stages.{none, pair_at, PutStages, put_stages}
 use Rattle.tta_designer.specs.Views.{told_of}
 use Rattle.tta_designer.specs.Request.{OfInfo}

@@ -1,12 +1,6 @@
 use Rattle.std.proofs.Common.{◌≡◌, ◌↔◌, ℕ, List, Some, refl, subst, inl, inr}
-use Rattle.tta_ports.specs.World.{World, IsUntouched}
-use Rattle.tta_ports.specs.Output.{Output, IsQuiet, IsPut, IsCut}
-use Rattle.tta_ops.specs.Units.{Units}
-use Rattle.tta_given.specs.declared.status.Status.{Status}
+use Rattle.tta_designer.specs.Cited.{World, IsUntouched, Output, IsQuiet, IsPut, IsCut, Units, Status, HasText, ReadFails, no_memory, HasMachine, RefusesMachine, TextEnds}
 use Rattle.tta_given.specs.declared.status.Status.TheVariants as status
-use Rattle.tta_given.specs.Held.{HasText, ReadFails, no_memory}
-use Rattle.tta_given.specs.Machines.{HasMachine, RefusesMachine}
-use Rattle.tta_given.specs.Ends.{TextEnds}
 use Rattle.tta_given.proofs.Stages.{none}
 use Rattle.tta_designer.specs.declared.view.View.{View}
 use Rattle.tta_designer.specs.Views.{machine_view}

@@ -1,11 +1,6 @@
 use Rattle.std.proofs.Common.{◌↔◌, ℕ, List, Option, inl, inr}
-use Rattle.tta_ports.specs.World.{World}
-use Rattle.tta_ports.specs.Output.{Output}
-use Rattle.tta_lines.specs.Come.{Come}
-use Rattle.tta_ops.specs.Units.{Units}
-use Rattle.tta_given.specs.declared.status.Status.{Status}
+use Rattle.tta_designer.specs.Cited.{World, Output, Come, Units, Status, ReadFailed, IsTooLong}
 use Rattle.tta_given.specs.declared.status.Status.TheVariants as status
-use Rattle.tta_given.specs.Held.{ReadFailed, IsTooLong}
 use Rattle.tta_given.proofs.Stages.{none}
 use Rattle.tta_given.proofs.RunStages.{unnamed, unheld, apart, alone}
 use Rattle.tta_designer.specs.Prompts.{OpensPrompt, PromptEndings}

@@ -1,11 +1,6 @@
 use Rattle.std.proofs.Common.{◌↔◌, ℕ, List, inl, inr}
-use Rattle.tta_ports.specs.World.{World}
-use Rattle.tta_ports.specs.Output.{Output}
-use Rattle.tta_ops.specs.Units.{Units}
-use Rattle.tta_given.specs.declared.status.Status.{Status}
+use Rattle.tta_designer.specs.Cited.{World, Output, Units, Status, ReadFailed, IsTooLong, IsProgramFor, RefusesProgramFor}
 use Rattle.tta_given.specs.declared.status.Status.TheVariants as status
-use Rattle.tta_given.specs.Held.{ReadFailed, IsTooLong}
-use Rattle.tta_given.specs.Programs.{IsProgramFor, RefusesProgramFor}
 use Rattle.tta_given.proofs.Stages.{none, pair_at, PutStages, put_stages}
 use Rattle.tta_designer.specs.declared.view.StagesView.{StagesView}
 use Rattle.tta_designer.specs.Stages.{IsStagesOf, IsCauseOf, ShowsStages, StagesEndings}

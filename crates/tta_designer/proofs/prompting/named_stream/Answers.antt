@@ -1,7 +1,6 @@
 use Rattle.std.proofs.Common.{ℕ, List, subst, inl}
 use Rattle.std.proofs.lemmas.Result.{err_from_is_err_and}
-use Rattle.tta_given.specs.Held.{TakesBytes}
-use Rattle.tta_given.specs.Inputs.{IsInput, RefusesStream}
+use Rattle.tta_designer.specs.Cited.{TakesBytes, IsInput, RefusesStream}
 use Rattle.tta_given.proofs.Taking.{file_taken}
 use Rattle.tta_designer.proofs.prompting.named_stream.Goals as goal
 

@@ -1,5 +1,5 @@
 use Rattle.std.proofs.Common.{option_map, refl, inl}
-use Rattle.tta_ops.specs.Set.{stated}
+use Rattle.tta_designer.specs.Cited.{stated}
 use Rattle.tta_designer.proofs.Prompted.{opens}
 use Rattle.tta_designer.proofs.prompting.prompt_image.Goals as goal
 

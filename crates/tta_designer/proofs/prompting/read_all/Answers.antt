@@ -1,6 +1,6 @@
 use Rattle.std.proofs.Common.{option_map, subst, inl}
 use Rattle.std.proofs.lemmas.Result.{err_from_is_err_and}
-use Rattle.tta_ops.specs.Set.{stated}
+use Rattle.tta_designer.specs.Cited.{stated}
 use Rattle.tta_designer.specs.Prompts.{ReadsGiven, GivenFails}
 use Rattle.tta_designer.proofs.Prompted.{files_read, files_refused}
 use Rattle.tta_designer.proofs.prompting.read_all.Goals as goal

@@ -1,9 +1,5 @@
 use Rattle.std.proofs.Common.{ℕ, List, [], refl, subst}
-use Rattle.tta_list.specs.Laid.{over}
-use Rattle.tta_code.specs.Whole.{data_in}
-use Rattle.tta_code.specs.Cycle.{start}
-use Rattle.tta_ops.specs.Set.{stated}
-use Rattle.tta_given.specs.declared.pair.CodePair.{CodePair}
+use Rattle.tta_designer.specs.Cited.{over, data_in, start, stated, CodePair}
 use Rattle.tta_designer.specs.Prompts.{EndsAs}
 use Rattle.tta_designer.proofs.Prompted.{first_few}
 use Rattle.tta_designer.proofs.prompting.session_of.Goals as goal

@@ -1,7 +1,6 @@
 use Rattle.std.proofs.Common.{subst, inl}
 use Rattle.std.specs.Prelude.{Err}
-use Rattle.tta_ops.specs.Set.{stated}
-use Rattle.tta_prompt.specs.Endings.{Prompts}
+use Rattle.tta_designer.specs.Cited.{stated, Prompts}
 use Rattle.tta_designer.proofs.prompting.session_to_status.Goals as goal
 
 pub returns-in-Ok : goal.returns-in-Ok

@@ -1,7 +1,5 @@
 use Rattle.std.proofs.Common.{◌<◌, ◌^◌, List, sym, subst}
-use Rattle.tta_ops.specs.Set.{stated}
-use Rattle.tta_moves.specs.declared.items.Placed.{Placed}
-use Rattle.tta_link.specs.Blocks.{total_length}
+use Rattle.tta_designer.specs.Cited.{stated, Placed, total_length}
 use Rattle.tta_stages.proofs.FewCycles.{few_cycles}
 use Rattle.tta_designer.proofs.remarking.starts_of.Goals as goal
 

@@ -1,8 +1,5 @@
 use Rattle.std.proofs.Common.{ℕ, List, IfOk, ap, ◌∙◌, length, subst}
-use Rattle.tta_list.specs.Laid.{over}
-use Rattle.tta_code.specs.Whole.{laid_by, data_in}
-use Rattle.tta_code.specs.Cycle.{start}
-use Rattle.tta_sim.specs.Held.{Stands}
+use Rattle.tta_designer.specs.Cited.{over, laid_by, data_in, start, Stands}
 use Rattle.tta_designer.proofs.running.load_code.Goals as goal
 use Rattle.tta_list.proofs.Sets.{over-length}
 

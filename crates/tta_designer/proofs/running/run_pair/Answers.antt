@@ -1,5 +1,5 @@
 use Rattle.std.proofs.Common.{ℕ, option_map, subst}
-use Rattle.tta_ops.specs.Set.{stated}
+use Rattle.tta_designer.specs.Cited.{stated}
 use Rattle.tta_given.specs.Inputs.{ReadsGiven}
 use Rattle.tta_given.proofs.Endings.{text_ends}
 use Rattle.tta_given.proofs.RunEndings.{given_runs}

@@ -1,9 +1,5 @@
 use Rattle.std.proofs.Common.{ℕ, List, [], refl, subst}
-use Rattle.tta_list.specs.Laid.{over}
-use Rattle.tta_code.specs.Whole.{data_in}
-use Rattle.tta_code.specs.Cycle.{start}
-use Rattle.tta_ops.specs.Set.{stated}
-use Rattle.tta_given.specs.Held.{MadeEnds, no_memory}
+use Rattle.tta_designer.specs.Cited.{over, data_in, start, stated, MadeEnds, no_memory}
 use Rattle.tta_designer.specs.Runs.{IsRunShown}
 use Rattle.tta_designer.specs.Spans.{first_of}
 use Rattle.tta_designer.proofs.Laying.{few_cycles}

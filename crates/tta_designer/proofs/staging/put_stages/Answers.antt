@@ -1,5 +1,4 @@
-use Rattle.tta_ops.specs.Set.{stated}
-use Rattle.tta_given.specs.Programs.{IsProgramFor, RefusesProgramFor}
+use Rattle.tta_designer.specs.Cited.{stated, IsProgramFor, RefusesProgramFor}
 use Rattle.tta_given.proofs.Endings.{puts}
 use Rattle.tta_designer.specs.Stages.{IsStagesOf, IsCauseOf}
 use Rattle.tta_designer.proofs.staging.put_stages.Goals as goal

@@ -1,4 +1,4 @@
-use Rattle.tta_ops.specs.Set.{stated}
+use Rattle.tta_designer.specs.Cited.{stated}
 use Rattle.tta_designer.proofs.subject.subject_of.Goals as goal
 
 pub returns-then-begins_as_image-clause-takes : goal.returns-then-begins_as_image-clause-takes

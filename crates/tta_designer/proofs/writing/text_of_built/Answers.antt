@@ -1,4 +1,4 @@
-use Rattle.tta_ops.specs.Set.{stated}
+use Rattle.tta_designer.specs.Cited.{stated}
 use Rattle.tta_designer.specs.Stages.{IsCauseOf}
 use Rattle.tta_designer.specs.Circuits.{IsWholeCircuit, IsBuiltCircuit}
 use Rattle.tta_designer.proofs.Made.{made_of}

@@ -1,8 +1,7 @@
 use Rattle.std.proofs.Common.{◌≡◌, ◌++◌, [], if◌then◌else◌}
 use Rattle.std.specs.Prelude.{codes}
 use Rattle.std.specs.List.{flat_map}
-use Rattle.tta_arch.specs.Joins.{has_bit}
-use Rattle.tta_arch.specs.Fields.{numbers}
+use Rattle.tta_draw.specs.Cited.{has_bit, numbers}
 use Rattle.tta_draw.specs.Svg.{box_text}
 use Rattle.tta_draw.specs.CodePlaces.{cell_frame}
 use Rattle.tta_draw.proofs.cells.push_all_taken.Given as goal

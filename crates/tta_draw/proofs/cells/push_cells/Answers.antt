@@ -1,5 +1,5 @@
 use Rattle.std.proofs.lemmas.List.{get_or_default}
-use Rattle.tta_ops.specs.Set.{stated}
+use Rattle.tta_draw.specs.Cited.{stated}
 use Rattle.tta_draw.specs.CodePicture.{slot_text}
 use Rattle.tta_draw.specs.CodePlaces.{cell_frame}
 use Rattle.tta_arch.proofs.CodeLists.{pieces_more}

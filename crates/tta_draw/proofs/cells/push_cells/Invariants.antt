@@ -1,6 +1,6 @@
 use Rattle.std.proofs.Common.{◌≡◌, ◌++◌, drop}
 use Rattle.std.specs.List.{flat_map, enumerate_from}
-use Rattle.tta_ops.specs.Set.{stated}
+use Rattle.tta_draw.specs.Cited.{stated}
 use Rattle.tta_draw.specs.CodePicture.{slot_text, cells_text}
 use Rattle.tta_draw.specs.CodePlaces.{cell_frame}
 use Rattle.tta_draw.proofs.cells.push_cells.Given as goal

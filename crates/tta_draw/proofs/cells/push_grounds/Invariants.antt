@@ -1,7 +1,7 @@
 use Rattle.std.proofs.Common.{◌≡◌, ◌++◌, [], if◌then◌else◌}
 use Rattle.std.specs.Prelude.{codes}
 use Rattle.std.specs.List.{flat_map}
-use Rattle.tta_arch.specs.Fields.{numbers}
+use Rattle.tta_draw.specs.Cited.{numbers}
 use Rattle.tta_draw.specs.Svg.{box_text}
 use Rattle.tta_draw.specs.CodePlaces.{slot_frame}
 use Rattle.tta_draw.specs.DelaySlots.{is_delay_slot}

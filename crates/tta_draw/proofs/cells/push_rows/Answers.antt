@@ -1,4 +1,4 @@
-use Rattle.tta_ops.specs.Set.{stated}
+use Rattle.tta_draw.specs.Cited.{stated}
 use Rattle.tta_draw.specs.CodePicture.{row_text}
 use Rattle.tta_arch.proofs.CodeLists.{pieces_more}
 use Rattle.tta_draw.proofs.cells.push_rows.Goals as goal

@@ -1,7 +1,7 @@
 use Rattle.std.proofs.Common.{◌≡◌, ◌++◌, [], false, if◌then◌else◌}
 use Rattle.std.specs.Prelude.{slice_index_or}
 use Rattle.std.specs.List.{flat_map}
-use Rattle.tta_arch.specs.Fields.{numbers}
+use Rattle.tta_draw.specs.Cited.{numbers}
 use Rattle.tta_draw.specs.CodePicture.{label_row_text}
 use Rattle.tta_draw.proofs.guides.push_all_labels.Given as goal
 

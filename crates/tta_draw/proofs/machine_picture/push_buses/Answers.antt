@@ -1,4 +1,4 @@
-use Rattle.tta_ops.specs.Set.{stated}
+use Rattle.tta_draw.specs.Cited.{stated}
 use Rattle.tta_draw.specs.MachinePicture.{bus_text}
 use Rattle.tta_arch.proofs.CodeLists.{pieces_more}
 use Rattle.tta_draw.proofs.machine_picture.push_buses.Goals as goal

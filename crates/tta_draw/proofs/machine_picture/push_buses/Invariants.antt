@@ -1,6 +1,6 @@
 use Rattle.std.proofs.Common.{◌≡◌, ◌++◌, drop}
 use Rattle.std.specs.List.{flat_map, enumerate_from}
-use Rattle.tta_ops.specs.Set.{stated}
+use Rattle.tta_draw.specs.Cited.{stated}
 use Rattle.tta_draw.specs.MachinePicture.{bus_text, buses_text}
 use Rattle.tta_draw.proofs.machine_picture.push_buses.Given as goal
 

@@ -1,6 +1,6 @@
 use Rattle.std.proofs.Common.{◌≡◌, ℕ, ◌++◌, ap, subst}
 use Rattle.std.specs.Prelude.{codes, OnOk}
-use Rattle.tta_arch.specs.Machine.{Machine}
+use Rattle.tta_draw.specs.Cited.{Machine}
 use Rattle.tta_draw.specs.MachinePicture.{spaces_text, space_text}
 use Rattle.tta_draw.proofs.machine_picture.push_spaces.Goals as goal
 use Rattle.tta_list.proofs.Lists.{then_more}

@@ -1,5 +1,5 @@
 use Rattle.std.proofs.Common.{◌≡◌, ◌≤◌, drop}
-use Rattle.tta_ops.specs.Set.{stated}
+use Rattle.tta_draw.specs.Cited.{stated}
 use Rattle.tta_draw.specs.MachineWidths.{wider_ops}
 use Rattle.tta_draw.proofs.machine_widths.wider_ops.Given as goal
 

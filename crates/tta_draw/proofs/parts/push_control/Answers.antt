@@ -1,6 +1,6 @@
 use Rattle.std.proofs.Common.{◌≡◌, ℕ, ◌+◌, ◌++◌, Option, ap, subst, ◌∙◌}
 use Rattle.std.specs.Prelude.{codes, OnOk}
-use Rattle.tta_arch.specs.Machine.{Machine}
+use Rattle.tta_draw.specs.Cited.{Machine}
 use Rattle.tta_draw.specs.MachineWidths.{control_width, port_width}
 use Rattle.tta_draw.specs.MachinePicture.{control_text, part_text, told_text, port_text, port_if_text}
 use Rattle.tta_draw.proofs.parts.push_control.Goals as goal

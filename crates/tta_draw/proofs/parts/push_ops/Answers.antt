@@ -1,6 +1,6 @@
 use Rattle.std.proofs.Common.{◌+◌}
 use Rattle.std.proofs.lemmas.List.{get_or_default}
-use Rattle.tta_ops.specs.Set.{stated}
+use Rattle.tta_draw.specs.Cited.{stated}
 use Rattle.tta_draw.specs.MachinePicture.{op_line_text}
 use Rattle.tta_arch.proofs.CodeLists.{pieces_more}
 use Rattle.tta_draw.proofs.parts.push_ops.Goals as goal

@@ -1,5 +1,5 @@
 use Rattle.std.proofs.Common.{[], if◌then◌else◌}
-use Rattle.tta_arch.specs.Joins.{has_bit}
+use Rattle.tta_draw.specs.Cited.{has_bit}
 use Rattle.tta_draw.specs.Svg.{dot_text}
 use Rattle.tta_draw.specs.MachinePlaces.{bus_y}
 use Rattle.tta_draw.proofs.ports.push_dots.Goals as goal

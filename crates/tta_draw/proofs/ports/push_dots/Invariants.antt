@@ -1,7 +1,6 @@
 use Rattle.std.proofs.Common.{◌≡◌, ◌++◌, [], if◌then◌else◌}
 use Rattle.std.specs.List.{flat_map}
-use Rattle.tta_arch.specs.Joins.{has_bit}
-use Rattle.tta_arch.specs.Fields.{numbers}
+use Rattle.tta_draw.specs.Cited.{has_bit, numbers}
 use Rattle.tta_draw.specs.Svg.{dot_text}
 use Rattle.tta_draw.specs.MachinePlaces.{bus_y}
 use Rattle.tta_draw.proofs.ports.push_dots.Given as goal

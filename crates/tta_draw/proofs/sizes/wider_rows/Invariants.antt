@@ -1,5 +1,5 @@
 use Rattle.std.proofs.Common.{◌≡◌, ◌≤◌, drop}
-use Rattle.tta_ops.specs.Set.{stated}
+use Rattle.tta_draw.specs.Cited.{stated}
 use Rattle.tta_draw.specs.CodeWidths.{wider_rows}
 use Rattle.tta_draw.proofs.sizes.wider_rows.Given as goal
 

@@ -1,5 +1,5 @@
 use Rattle.std.proofs.Common.{◌≡◌, drop}
-use Rattle.tta_arch.specs.Effects.{first_some}
+use Rattle.tta_draw.specs.Cited.{first_some}
 use Rattle.tta_draw.specs.Targets.{leading}
 use Rattle.tta_draw.proofs.targets.jump_in.Given as goal
 

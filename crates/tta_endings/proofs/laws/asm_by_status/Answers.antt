@@ -1,12 +1,8 @@
 use Rattle.std.proofs.Common.{◌↔◌, ℕ, List, inl, inr}
-use Rattle.tta_ports.specs.World.{World}
-use Rattle.tta_ops.specs.Units.{Units}
-use Rattle.tta_given.specs.declared.status.Status.{Status}
+use Rattle.tta_endings.specs.Cited.{World, Units, Status, ReadFailed, no_memory, IsAssemblyFor, RefusesAssembly, IsAssembled, Assembles}
 use Rattle.tta_given.specs.declared.status.Status.TheVariants as status
-use Rattle.tta_given.specs.Held.{ReadFailed, IsTooLong, no_memory}
-use Rattle.tta_given.specs.Assemblies.{IsAssemblyFor, RefusesAssembly}
+use Rattle.tta_given.specs.Held.{IsTooLong}
 use Rattle.tta_given.proofs.Stages.{none, pair_at, WriteStages, write_stages}
-use Rattle.tta_tool.specs.Asm.{IsAssembled, Assembles}
 use Rattle.tta_endings.specs.Asm.{AsmEndings}
 use Rattle.tta_endings.proofs.laws.asm_by_status.Goals as goal
 

@@ -1,10 +1,7 @@
 use Rattle.std.proofs.Common.{inl, inr}
-use Rattle.tta_given.specs.Held.{no_memory}
-use Rattle.tta_given.specs.Assemblies.{IsAssemblyFor, RefusesAssembly}
-use Rattle.tta_tool.specs.Asm.{IsAssembled}
+use Rattle.tta_endings.specs.Cited.{no_memory, IsAssemblyFor, RefusesAssembly, IsAssembled, assembled}
 use Rattle.tta_endings.proofs.FilesTaken.{same_read}
 use Rattle.tta_endings.proofs.PairsTaken.{assembly_only, writes_only}
-use Rattle.tta_asm.specs.Assembly.{assembled}
 use Rattle.tta_endings.proofs.laws.asm_completes.Goals as goal
 
 pub returns : goal.returns

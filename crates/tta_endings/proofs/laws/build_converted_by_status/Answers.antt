@@ -1,12 +1,8 @@
 use Rattle.std.proofs.Common.{◌↔◌, ℕ, List, inl, inr}
-use Rattle.tta_ports.specs.World.{World}
-use Rattle.tta_ops.specs.Units.{Units}
-use Rattle.tta_given.specs.declared.status.Status.{Status}
+use Rattle.tta_endings.specs.Cited.{World, Units, Status, ReadFailed, IsProgramFor, RefusesProgramFor, IsConvertedImageOf, IsConvertedCauseOf, BuildsConverted}
 use Rattle.tta_given.specs.declared.status.Status.TheVariants as status
-use Rattle.tta_given.specs.Held.{ReadFailed, IsTooLong}
-use Rattle.tta_given.specs.Programs.{IsProgramFor, RefusesProgramFor}
+use Rattle.tta_given.specs.Held.{IsTooLong}
 use Rattle.tta_given.proofs.Stages.{none, pair_at, WriteStages, write_stages}
-use Rattle.tta_tool.specs.BuildConverted.{IsConvertedImageOf, IsConvertedCauseOf, BuildsConverted}
 use Rattle.tta_endings.specs.BuildConverted.{BuildConvertedEndings}
 use Rattle.tta_endings.proofs.laws.build_converted_by_status.Goals as goal
 

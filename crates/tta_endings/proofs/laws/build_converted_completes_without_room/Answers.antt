@@ -1,6 +1,5 @@
 use Rattle.std.proofs.Common.{inl, inr}
-use Rattle.tta_given.specs.Programs.{IsProgramFor, RefusesProgramFor}
-use Rattle.tta_tool.specs.BuildConverted.{IsConvertedImageOf, IsConvertedCauseOf}
+use Rattle.tta_endings.specs.Cited.{IsProgramFor, RefusesProgramFor, IsConvertedImageOf, IsConvertedCauseOf}
 use Rattle.tta_endings.proofs.OneProgram.{one_program}
 use Rattle.tta_endings.proofs.FilesTaken.{program_only}
 use Rattle.tta_endings.proofs.PairsTaken.{writes_only}

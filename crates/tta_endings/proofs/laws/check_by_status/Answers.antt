@@ -1,14 +1,9 @@
 use Rattle.std.proofs.Common.{◌↔◌, ℕ, List, subst, refl, inl, inr}
 use Rattle.std.specs.Prelude.{codes}
-use Rattle.tta_ports.specs.World.{World}
-use Rattle.tta_ports.specs.Output.{Output, IsPut, IsCut}
-use Rattle.tta_ops.specs.Units.{Units}
-use Rattle.tta_given.specs.declared.status.Status.{Status}
+use Rattle.tta_endings.specs.Cited.{World, Output, IsPut, IsCut, Units, Status, ReadFailed, IsImageFor, RefusesImage, IsCalledSafe, IsFound, ChecksCode}
 use Rattle.tta_given.specs.declared.status.Status.TheVariants as status
-use Rattle.tta_given.specs.Held.{ReadFailed, IsTooLong}
-use Rattle.tta_given.specs.Images.{IsImageFor, RefusesImage}
+use Rattle.tta_given.specs.Held.{IsTooLong}
 use Rattle.tta_given.proofs.Stages.{none, pair_at, PutStages, put_stages}
-use Rattle.tta_tool.specs.Check.{IsCalledSafe, IsFound, ChecksCode}
 use Rattle.tta_endings.specs.Check.{CheckEndings}
 use Rattle.tta_endings.proofs.laws.check_by_status.Goals as goal
 

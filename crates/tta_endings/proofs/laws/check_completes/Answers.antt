@@ -1,10 +1,6 @@
 use Rattle.std.proofs.Common.{◌≡◌, ◌⊎◌, refl, inl, inr}
-use Rattle.tta_code.specs.Whole.{Whole}
-use Rattle.tta_given.specs.declared.machine.MachineFile.{MachineFile}
-use Rattle.tta_given.specs.declared.status.Status.{Status}
+use Rattle.tta_endings.specs.Cited.{Whole, MachineFile, Status, IsImageFor, RefusesImage, IsCalledSafe, IsFound}
 use Rattle.tta_given.specs.declared.status.Status.TheVariants as status
-use Rattle.tta_given.specs.Images.{IsImageFor, RefusesImage}
-use Rattle.tta_tool.specs.Check.{IsCalledSafe, IsFound}
 use Rattle.tta_endings.specs.PutCompletes.{IsFoundUnsafe, CheckCompletes}
 use Rattle.tta_endings.proofs.PairsTaken.{image_only, one_whole}
 use Rattle.tta_endings.proofs.TextsPut.{puts_only}

@@ -1,17 +1,9 @@
 use Rattle.std.proofs.Common.{◌≡◌, ◌↔◌, ℕ, List, Option, inl, inr}
-use Rattle.tta_ports.specs.World.{World, IsUntouched}
-use Rattle.tta_ports.specs.Output.{Output, IsQuiet}
-use Rattle.tta_ops.specs.Units.{Units}
-use Rattle.tta_given.specs.declared.status.Status.{Status}
+use Rattle.tta_endings.specs.Cited.{World, IsUntouched, Output, IsQuiet, Units, Status, HasText, ReadFails, ReadFailed, HasMachine, RefusesMachine, IsImageFor, RefusesImage, RefusesInput, RefusesStream, HasPair, OfNamed, HasThree, HasBytes, HasAsked, said, Debugs}
 use Rattle.tta_given.specs.declared.status.Status.TheVariants as status
-use Rattle.tta_given.specs.Held.{HasText, ReadFails, ReadFailed, IsTooLong}
-use Rattle.tta_given.specs.Machines.{HasMachine, RefusesMachine}
-use Rattle.tta_given.specs.Images.{IsImageFor, RefusesImage}
-use Rattle.tta_given.specs.Inputs.{RefusesInput, RefusesStream}
-use Rattle.tta_given.specs.Pairs.{HasPair}
+use Rattle.tta_given.specs.Held.{IsTooLong}
 use Rattle.tta_given.proofs.Stages.{none, pair_stages, pair_at}
-use Rattle.tta_given.specs.Endings.{OfNamed, HasThree}
-use Rattle.tta_tool.specs.Debug.{HasBytes, HasAsked, said, SessionEnds, Debugs}
+use Rattle.tta_tool.specs.Debug.{SessionEnds}
 use Rattle.tta_endings.specs.Debug.{SessionFault, DebugEndings}
 use Rattle.tta_given.proofs.RunStages.{unnamed, unheld, apart, alone, stream_stages, stream_refused, stream_at}
 use Rattle.tta_endings.proofs.laws.debug_by_status.Goals as goal

@@ -1,19 +1,9 @@
 use Rattle.std.proofs.Common.{◌≡◌, ◌⊎◌, ℕ, true, false, List, [], Option, Some, refl, sym, ◌∙◌, ap, subst, inl, inr}
 use Rattle.tta_ports.specs.declared.fault.Fault.{Fault}
-use Rattle.tta_ports.specs.Store.{Store}
-use Rattle.tta_ports.specs.Faults.{Rose}
-use Rattle.tta_ports.specs.World.{World}
-use Rattle.tta_ports.specs.Output.{Output}
-use Rattle.tta_ops.specs.Units.{Units}
-use Rattle.tta_arch.specs.Machine.{Machine}
-use Rattle.tta_code.specs.Whole.{Whole}
-use Rattle.tta_sim.specs.Held.{is_fault}
-use Rattle.tta_debug.specs.Debugged.{Debugged}
-use Rattle.tta_given.specs.declared.status.Status.{Status}
+use Rattle.tta_endings.specs.Cited.{Store, Rose, World, Output, Units, Machine, Whole, is_fault, Debugged, Status, IsImageFor, RefusesImage, HasAsked, said, AskedRuns}
 use Rattle.tta_given.specs.declared.status.Status.TheVariants as status
-use Rattle.tta_given.specs.Images.{IsImageFor, RefusesImage}
 use Rattle.tta_endings.specs.Completes.{showing}
-use Rattle.tta_tool.specs.Debug.{HasAsked, said, SessionEnds, AskedRuns}
+use Rattle.tta_tool.specs.Debug.{SessionEnds}
 use Rattle.tta_endings.specs.PutCompletes.{DebugCompletes}
 use Rattle.tta_endings.proofs.FilesTaken.{same_some, read_only}
 use Rattle.tta_endings.proofs.PairsTaken.{image_only, one_whole, for_pair, pair_only}

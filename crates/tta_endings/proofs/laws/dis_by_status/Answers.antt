@@ -1,12 +1,9 @@
 use Rattle.std.proofs.Common.{◌↔◌, ℕ, List, inl, inr}
-use Rattle.tta_ports.specs.World.{World}
-use Rattle.tta_ops.specs.Units.{Units}
-use Rattle.tta_given.specs.declared.status.Status.{Status}
+use Rattle.tta_endings.specs.Cited.{World, Units, Status, ReadFailed, no_memory, IsImageFor, RefusesImage, Shows}
 use Rattle.tta_given.specs.declared.status.Status.TheVariants as status
-use Rattle.tta_given.specs.Held.{ReadFailed, IsTooLong, no_memory}
-use Rattle.tta_given.specs.Images.{IsImageFor, RefusesImage}
+use Rattle.tta_given.specs.Held.{IsTooLong}
 use Rattle.tta_given.proofs.Stages.{none, pair_at, WriteStages, write_stages}
-use Rattle.tta_tool.specs.Dis.{IsShown, Shows}
+use Rattle.tta_tool.specs.Dis.{IsShown}
 use Rattle.tta_endings.specs.Dis.{DisEndings}
 use Rattle.tta_endings.proofs.laws.dis_by_status.Goals as goal
 

@@ -1,6 +1,5 @@
 use Rattle.std.proofs.Common.{inl, inr}
-use Rattle.tta_given.specs.Held.{no_memory}
-use Rattle.tta_given.specs.Images.{IsImageFor, RefusesImage}
+use Rattle.tta_endings.specs.Cited.{no_memory, IsImageFor, RefusesImage}
 use Rattle.tta_tool.specs.Dis.{IsShown}
 use Rattle.tta_endings.proofs.PairsTaken.{image_only, one_whole, writes_only}
 use Rattle.tta_endings.proofs.laws.dis_completes.Goals as goal

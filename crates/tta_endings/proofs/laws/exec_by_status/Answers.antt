@@ -1,15 +1,11 @@
 use Rattle.std.proofs.Common.{◌↔◌, ℕ, List, Option, ap, inl, inr}
-use Rattle.tta_ports.specs.World.{World}
-use Rattle.tta_ports.specs.Output.{Output}
-use Rattle.tta_ops.specs.Units.{Units}
+use Rattle.tta_endings.specs.Cited.{World, Output, Units, Status, ReadFailed, IsProgramFor, RefusesProgramFor, Execs}
 use Rattle.tta_run.specs.declared.ended.Ended.TheVariants as ended
-use Rattle.tta_given.specs.declared.status.Status.{Status}
 use Rattle.tta_given.specs.declared.status.Status.TheVariants as status
-use Rattle.tta_given.specs.Held.{ReadFailed, IsTooLong}
-use Rattle.tta_given.specs.Programs.{IsProgramFor, RefusesProgramFor}
+use Rattle.tta_given.specs.Held.{IsTooLong}
 use Rattle.tta_given.proofs.Stages.{none}
 use Rattle.tta_tool.specs.Steps.{ended_of}
-use Rattle.tta_tool.specs.Exec.{Reports, Execs}
+use Rattle.tta_tool.specs.Exec.{Reports}
 use Rattle.tta_endings.specs.Exec.{ExecEndings}
 use Rattle.tta_tool.proofs.Outcomes.{program_ended, no_fault}
 use Rattle.tta_given.proofs.RunStages.{unnamed, unheld, apart, alone, stream_refused, run_at, RunStages, run_stages}

@@ -1,6 +1,5 @@
 use Rattle.std.proofs.Common.{ap}
-use Rattle.tta_agree.specs.Agrees.{program_at}
-use Rattle.tta_given.specs.Programs.{IsProgramFor, RefusesProgramFor}
+use Rattle.tta_endings.specs.Cited.{program_at, IsProgramFor, RefusesProgramFor}
 use Rattle.tta_tool.specs.Steps.{ended_of, run_text}
 use Rattle.tta_tool.specs.Exec.{Reports}
 use Rattle.tta_endings.proofs.OneProgram.{one_program}

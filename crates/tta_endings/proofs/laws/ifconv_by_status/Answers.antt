@@ -1,14 +1,7 @@
 use Rattle.std.proofs.Common.{◌↔◌, ℕ, List, inl, inr}
-use Rattle.tta_ports.specs.World.{World, IsUntouched}
-use Rattle.tta_ops.specs.Units.{Units}
-use Rattle.tta_tac.specs.Text.{ProgramText}
-use Rattle.tta_given.specs.declared.status.Status.{Status}
+use Rattle.tta_endings.specs.Cited.{World, IsUntouched, Units, ProgramText, Status, HasText, Held, ReadFails, no_memory, RefusesSource, WritingEnds, IsConvertedText, WritesConverted}
 use Rattle.tta_given.specs.declared.status.Status.TheVariants as status
-use Rattle.tta_given.specs.Held.{HasText, Held, ReadFails, no_memory}
-use Rattle.tta_given.specs.Sources.{RefusesSource}
-use Rattle.tta_given.specs.Ends.{WritingEnds}
 use Rattle.tta_given.proofs.Stages.{none}
-use Rattle.tta_tool.specs.Ifconv.{IsConvertedText, WritesConverted}
 use Rattle.tta_endings.specs.Ifconv.{IfconvEndings}
 use Rattle.tta_endings.proofs.laws.ifconv_by_status.Goals as goal
 

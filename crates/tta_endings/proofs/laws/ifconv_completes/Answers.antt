@@ -1,11 +1,7 @@
 use Rattle.std.proofs.Common.{◌≡◌, ℕ, List, refl, inl, inr}
-use Rattle.tta_ops.specs.Units.{Units}
+use Rattle.tta_endings.specs.Cited.{Units, ProgramText, Status, RefusesSource, IsConvertedText}
 use Rattle.tta_program.specs.Program.{Program}
-use Rattle.tta_tac.specs.Text.{ProgramText}
-use Rattle.tta_given.specs.declared.status.Status.{Status}
 use Rattle.tta_given.specs.declared.status.Status.TheVariants as status
-use Rattle.tta_given.specs.Sources.{RefusesSource}
-use Rattle.tta_tool.specs.Ifconv.{IsConvertedText}
 use Rattle.tta_endings.specs.ConvertedCompletes.{IfconvCompletes}
 use Rattle.tta_endings.proofs.OneProgram.{not_refused}
 use Rattle.tta_endings.proofs.FilesTaken.{file_only}

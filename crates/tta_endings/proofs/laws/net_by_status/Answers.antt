@@ -1,13 +1,8 @@
 use Rattle.std.proofs.Common.{◌↔◌, ℕ, List, length, inl, inr}
-use Rattle.tta_ports.specs.World.{World}
-use Rattle.tta_ports.specs.Output.{Output}
-use Rattle.tta_ops.specs.Units.{Units}
-use Rattle.tta_given.specs.declared.status.Status.{Status}
+use Rattle.tta_endings.specs.Cited.{World, Output, Units, Status, ReadFailed, cores_in, Nets}
 use Rattle.tta_given.specs.declared.status.Status.TheVariants as status
-use Rattle.tta_given.specs.Held.{ReadFailed, IsTooLong}
+use Rattle.tta_given.specs.Held.{IsTooLong}
 use Rattle.tta_given.proofs.Stages.{none}
-use Rattle.tta_network.specs.CoreFiles.{cores_in}
-use Rattle.tta_network.specs.Net.{Nets}
 use Rattle.tta_endings.specs.NetEndings.{CoreRefused, NetEndings}
 use Rattle.tta_endings.proofs.NetStages.{first_ended, refused_apart, refused_with, rounds_end, well, made_well, at_a_fault, made_at_fault, goes_on, made_on, cut, made_cut, NetStages, net_stages, net_at}
 use Rattle.tta_endings.proofs.laws.net_by_status.Goals as goal

@@ -1,6 +1,5 @@
 use Rattle.std.proofs.Common.{ap}
-use Rattle.tta_agree.specs.Agrees.{code_at}
-use Rattle.tta_given.specs.Images.{IsImageFor, RefusesImage}
+use Rattle.tta_endings.specs.Cited.{code_at, IsImageFor, RefusesImage}
 use Rattle.tta_tool.specs.Cycles.{ended_of, run_text}
 use Rattle.tta_tool.specs.Run.{Reports}
 use Rattle.tta_endings.proofs.PairsTaken.{image_only, one_whole}

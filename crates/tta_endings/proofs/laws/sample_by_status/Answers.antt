@@ -1,19 +1,8 @@
 use Rattle.std.proofs.Common.{◌↔◌, ℕ, List, inl, inr}
-use Rattle.tta_ports.specs.World.{World, IsUntouched}
-use Rattle.tta_ports.specs.Output.{Output, IsQuiet}
-use Rattle.tta_ops.specs.Units.{Units}
+use Rattle.tta_endings.specs.Cited.{World, IsUntouched, Output, IsQuiet, Units, sample_text, Whole, IsBuilt, Status, HasText, ReadFails, HasMachine, RefusesMachine, IsProgramIn, RefusesProgram, IsCauseOf, step_bound, CompareEnds, Samples}
 use Rattle.tta_program.specs.Program.{Program}
-use Rattle.tta_sample.specs.Sample.{sample_text}
-use Rattle.tta_code.specs.Whole.{Whole}
-use Rattle.tta_build.specs.Statement.{IsBuilt}
-use Rattle.tta_given.specs.declared.status.Status.{Status}
 use Rattle.tta_given.specs.declared.status.Status.TheVariants as status
-use Rattle.tta_given.specs.Held.{HasText, ReadFails}
-use Rattle.tta_given.specs.Machines.{HasMachine, RefusesMachine}
-use Rattle.tta_given.specs.Programs.{IsProgramIn, RefusesProgram}
 use Rattle.tta_given.proofs.Stages.{none}
-use Rattle.tta_tool.specs.Build.{IsCauseOf}
-use Rattle.tta_tool.specs.Sample.{step_bound, CompareEnds, Samples}
 use Rattle.tta_endings.specs.Sample.{SampleEndings}
 use Rattle.tta_endings.proofs.laws.sample_by_status.Goals as goal
 

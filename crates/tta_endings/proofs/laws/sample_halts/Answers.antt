@@ -1,15 +1,8 @@
 use Rattle.std.proofs.Common.{◌≡◌, ◌<◌, ◌^◌, ℕ, List, [], subst, inl, inr}
-use Rattle.tta_list.specs.Laid.{over}
-use Rattle.tta_ports.specs.World.{World}
-use Rattle.tta_ports.specs.Output.{Output}
-use Rattle.tta_ops.specs.Units.{Units}
-use Rattle.tta_program.specs.Program.{Program, data_of}
+use Rattle.tta_endings.specs.Cited.{over, World, Output, Units, data_of, sample_text, IsProgramIn, zeros, step_bound, program_after, Samples, CountsRounds}
+use Rattle.tta_program.specs.Program.{Program}
 use Rattle.tta_program.specs.Sequential as sequential
-use Rattle.tta_sample.specs.Sample.{sample_text}
 use Rattle.tta_given.specs.declared.status.Status.TheVariants as status
-use Rattle.tta_given.specs.Programs.{IsProgramIn}
-use Rattle.tta_tool.specs.Sample.{zeros, step_bound, program_after, Samples}
-use Rattle.tta_halting.specs.Statement.{CountsRounds}
 use Rattle.tta_halting.proofs.Halting.{samples_halt_holds}
 use Rattle.tta_endings.specs.SampleHalts.{SampleHalts}
 use Rattle.tta_endings.proofs.laws.sample_halts.Goals as goal

@@ -1,7 +1,6 @@
 use Rattle.std.proofs.Common.{ℕ, List, subst, inl}
 use Rattle.std.proofs.lemmas.Result.{err_from_is_err_and}
-use Rattle.tta_ops.specs.Set.{stated}
-use Rattle.tta_tac.specs.Text.{ProgramText}
+use Rattle.tta_given.specs.Cited.{stated, ProgramText}
 use Rattle.tta_given.specs.Held.{TakesBytes}
 use Rattle.tta_given.specs.Sources.{RefusesSource}
 use Rattle.tta_given.proofs.Taking.{file_taken}

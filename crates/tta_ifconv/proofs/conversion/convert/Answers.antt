@@ -1,6 +1,5 @@
 use Rattle.std.proofs.Common.{◌∙◌, sym, subst}
-use Rattle.tta_program.specs.Program.{Program}
-use Rattle.tta_program.specs.Rules.{IsProgram}
+use Rattle.tta_ifconv.specs.Cited.{Program, IsProgram}
 use Rattle.tta_ifconv.proofs.Unique.{no_triangle_left}
 use Rattle.tta_ifconv.proofs.Kept.{program_kept}
 use Rattle.tta_ifconv.proofs.Tabling.{converted_whole}

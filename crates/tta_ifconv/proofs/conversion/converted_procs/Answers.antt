@@ -1,5 +1,5 @@
 use Rattle.std.proofs.Common.{◌∙◌, ap}
-use Rattle.tta_program.specs.Program.{Program}
+use Rattle.tta_ifconv.specs.Cited.{Program}
 use Rattle.tta_ifconv.proofs.Tabling.{closed_there, procs_more}
 use Rattle.tta_ifconv.proofs.conversion.converted_procs.Goals as goal
 

@@ -1,5 +1,5 @@
 use Rattle.std.proofs.Common.{ℕ, ◌+◌, ap}
-use Rattle.tta_arch.specs.Fields.{same_dest}
+use Rattle.tta_image.specs.Cited.{same_dest}
 use Rattle.tta_arch.proofs.CodeLists.{place_or_len}
 use Rattle.tta_image.proofs.fields.dest_code.Goals as goal
 

@@ -1,7 +1,5 @@
 use Rattle.std.proofs.Common.{ℕ, ◌+◌, Option, ap, sym, ◌∙◌}
-use Rattle.tta_arch.specs.declared.ends.GuardRef.{GuardRef}
-use Rattle.tta_arch.specs.declared.parts.Guard.{Guard}
-use Rattle.tta_arch.specs.Joins.{is_same_guard}
+use Rattle.tta_image.specs.Cited.{GuardRef, Guard, is_same_guard}
 use Rattle.tta_image.specs.Fields.{guard_number}
 use Rattle.tta_arch.proofs.CodeLists.{place_or_len}
 use Rattle.tta_image.proofs.fields.guard_code.Goals as goal

@@ -1,4 +1,4 @@
-use Rattle.tta_arch.specs.Fields.{same_source}
+use Rattle.tta_image.specs.Cited.{same_source}
 use Rattle.tta_arch.proofs.CodeLists.{place_or_len}
 use Rattle.tta_image.proofs.fields.source_code.Goals as goal
 

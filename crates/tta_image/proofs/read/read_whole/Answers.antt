@@ -1,8 +1,6 @@
 use Rattle.std.proofs.Common.{◌<◌, ◌^◌, subst, ap, sym, Ok, Err, arith}
 use Rattle.std.proofs.lemmas.Result.{err_from_is_err_and}
-use Rattle.tta_arch.specs.Machine.{Machine}
-use Rattle.tta_arch.specs.declared.layout.Layout.{Layout}
-use Rattle.tta_arch.specs.Rules.{IsMachine}
+use Rattle.tta_image.specs.Cited.{Machine, Layout, IsMachine}
 use Rattle.tta_image.proofs.ImageDecoded.{image_of_decoded, no_image}
 use Rattle.tta_image.proofs.HeaderDecoded.{all_checked, small_bytes, section_there}
 use Rattle.tta_image.proofs.PairsDecoded.{data_has}

@@ -1,6 +1,6 @@
 use Rattle.std.proofs.Common.{sym}
 use Rattle.std.proofs.lemmas.Bool.{ltb-true}
-use Rattle.tta_arch.specs.Fields.{same_source}
+use Rattle.tta_image.specs.Cited.{same_source}
 use Rattle.tta_image.specs.Ranks.{source_rank}
 use Rattle.tta_image.proofs.Orders.{same_source_rank}
 use Rattle.tta_image.proofs.Sought.{found}

@@ -1,7 +1,7 @@
 use Rattle.std.proofs.Common.{ℕ, ap, sym, ◌∙◌, subst}
 use Rattle.std.specs.Option.{is_some}
 use Rattle.std.proofs.lemmas.Bool.{ltb-true, ltb-false}
-use Rattle.tta_arch.specs.Fields.{same_dest}
+use Rattle.tta_image.specs.Cited.{same_dest}
 use Rattle.tta_image.specs.Ranks.{dest_rank, IsPlaceOf}
 use Rattle.tta_image.proofs.Orders.{same_dest_rank}
 use Rattle.tta_image.proofs.Sought.{found, missed, ended}

@@ -1,5 +1,5 @@
 use Rattle.std.proofs.Common.{◌≤◌, length, sym, ap, ◌∙◌, arith}
-use Rattle.tta_arch.specs.Machine.{Machine}
+use Rattle.tta_image.specs.Cited.{Machine}
 use Rattle.tta_image.proofs.BitsAt.{least_is}
 use Rattle.tta_image.proofs.words.least_bus.Goals as goal
 

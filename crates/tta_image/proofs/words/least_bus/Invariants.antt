@@ -1,5 +1,5 @@
 use Rattle.std.proofs.Common.{◌≡◌, ℕ, ◌<◌, false}
-use Rattle.tta_arch.specs.Joins.{has_bit}
+use Rattle.tta_image.specs.Cited.{has_bit}
 use Rattle.tta_image.proofs.words.least_bus.Given as goal
 
 abbrev pub invariant-loop-bus : goal.invariant-loop-bus

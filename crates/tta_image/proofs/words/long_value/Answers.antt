@@ -1,6 +1,6 @@
 use Rattle.std.proofs.Common.{◌+◌, ◌<◌, ◌≤◌, Bool, List, drop, take, length, sym, ap, ◌∙◌, arith}
 use Rattle.std.proofs.lemmas.List.{length-drop, drop-drop, drop_all}
-use Rattle.tta_arch.specs.declared.layout.BusFields.{BusFields}
+use Rattle.tta_image.specs.Cited.{BusFields}
 use Rattle.tta_image.specs.Decoding.{bits_in, number_of, taken_bits}
 use Rattle.tta_image.proofs.Unique.{length-bytes}
 use Rattle.tta_image.proofs.Walks.{number_with, item_read, width_step, width_here, fields_step, value_after_bus, value_small, value_more, value_stop, value_end}

@@ -1,7 +1,5 @@
 use Rattle.std.proofs.Common.{◌+◌, Ok, Err, length, drop, subst, sym, ap, ◌∙◌, arith}
-use Rattle.tta_arch.specs.Machine.{Machine}
-use Rattle.tta_arch.specs.declared.layout.Layout.{Layout}
-use Rattle.tta_arch.specs.Rules.{IsMachine}
+use Rattle.tta_image.specs.Cited.{Machine, Layout, IsMachine}
 use Rattle.tta_arch.proofs.Layouts.{layout_buses}
 use Rattle.tta_image.specs.Decoding.{bits_in, decoded_template}
 use Rattle.tta_image.proofs.Walks.{rest_after}

@@ -1,7 +1,7 @@
 use Rattle.std.proofs.Common.{◌+◌, ◌<◌, ◌≤◌, Bool, List, drop, length, sym, ap, ◌∙◌, arith}
 use Rattle.std.proofs.lemmas.List.{drop-drop, drop_all}
 use Rattle.std.proofs.lemmas.Result.{err_from_is_err_and}
-use Rattle.tta_arch.specs.declared.layout.BusFields.{BusFields}
+use Rattle.tta_image.specs.Cited.{BusFields}
 use Rattle.tta_image.specs.Decoding.{bits_in, decoded_slots}
 use Rattle.tta_image.proofs.Walks.{answers_same, with_front, item_read, width_step, width_here, fields_step, slots_more, slots_stop, slots_end}
 use Rattle.tta_image.proofs.words.read_slots.Goals as goal

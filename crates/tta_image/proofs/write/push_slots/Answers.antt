@@ -1,5 +1,5 @@
 use Rattle.std.proofs.Common.{◌≡◌, ℕ, ◌-◌, ◌<◌, ◌∙◌, ◌++◌, List, length, get_or, refl, sym, ap, arith}
-use Rattle.tta_arch.specs.declared.layout.BusFields.{BusFields}
+use Rattle.tta_image.specs.Cited.{BusFields}
 use Rattle.std.specs.List.{sum_by, range_with_len}
 use Rattle.tta_image.specs.Bits.{bits_of, slots_bits}
 use Rattle.tta_arch.proofs.Layouts.{set_width_at, set_width, layout_bus_read, layout_buses}

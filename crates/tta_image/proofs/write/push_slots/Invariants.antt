@@ -1,6 +1,6 @@
 use Rattle.std.proofs.Common.{◌≡◌, ◌-◌, ◌++◌, length, drop}
 use Rattle.std.specs.List.{sum_by, range_with_len}
-use Rattle.tta_arch.specs.Fields.{taken_width}
+use Rattle.tta_image.specs.Cited.{taken_width}
 use Rattle.tta_image.specs.Bits.{bits_of, slots_bits}
 use Rattle.tta_arch.proofs.Layouts.{set_width_at}
 use Rattle.tta_image.proofs.write.push_slots.Given as goal

@@ -1,13 +1,8 @@
 use Rattle.std.proofs.Common.{◌≡◌, ◌<◌, ◌^◌, true, List, ap, sym, ◌∙◌, length, subst, arith}
 use Rattle.std.specs.List.{flat_map}
 use Rattle.std.proofs.lemmas.List.Elements.{All-same}
-use Rattle.tta_code.specs.declared.code.Instruction.{Instruction}
-use Rattle.tta_arch.specs.declared.layout.Layout.{Layout}
-use Rattle.tta_code.specs.declared.whole.Datum.{Datum}
-use Rattle.tta_code.specs.Whole.{Whole, rises}
+use Rattle.tta_image.specs.Cited.{Instruction, Layout, Datum, Whole, rises, Machine, IsMachine}
 use Rattle.tta_image.proofs.PairsDecoded.{few_data}
-use Rattle.tta_arch.specs.Machine.{Machine}
-use Rattle.tta_arch.specs.Rules.{IsMachine}
 use Rattle.tta_image.proofs.Orders.{layout_in_order}
 use Rattle.tta_image.specs.Bits.{instruction_bits}
 use Rattle.tta_image.proofs.ImageLemmas.{parts_from, are_bytes_of_same, legal_slots}

@@ -1,6 +1,6 @@
 use Rattle.std.proofs.Common.{◌≡◌, ◌++◌, map, drop, true}
 use Rattle.std.specs.List.{list_all, range_with_len}
-use Rattle.tta_moves.specs.Bounds.{in_cycle}
+use Rattle.tta_link.specs.Cited.{in_cycle}
 use Rattle.tta_link.specs.Linked.{instruction_of}
 use Rattle.tta_link.proofs.row.push_block.Given as goal
 use Rattle.tta_link.specs.Put.{is_word_in}

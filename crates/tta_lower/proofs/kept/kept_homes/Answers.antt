@@ -1,6 +1,6 @@
 use Rattle.std.proofs.Common.{◌≡◌, ◌∙◌, ap, length, filter, List, Bool, arith}
 use Rattle.std.proofs.lemmas.List.{length-replicate}
-use Rattle.tta_alloc.specs.Homes.{count_of}
+use Rattle.tta_lower.specs.Cited.{count_of}
 use Rattle.tta_lower.specs.Plan.{homes_in, live_in}
 use Rattle.tta_lower.specs.Lower.{numbers, owner_of}
 use Rattle.tta_lower.specs.Tables.{marked}

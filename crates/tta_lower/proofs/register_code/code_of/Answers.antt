@@ -1,6 +1,5 @@
 use Rattle.std.proofs.Common.{◌∙◌, ap, sym, subst, List, length, ◌<◌, ◌^◌}
-use Rattle.tta_alloc.specs.Homes.{count_of}
-use Rattle.tta_rcode.specs.declared.code.RBlock.{RBlock}
+use Rattle.tta_lower.specs.Cited.{count_of, RBlock}
 use Rattle.tta_lower.specs.Lower.{Part}
 use Rattle.tta_lower.specs.Tables.{StandOnce}
 use Rattle.tta_lower.specs.Laid.{AreParts}

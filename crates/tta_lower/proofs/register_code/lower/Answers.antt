@@ -1,6 +1,6 @@
 use Rattle.std.proofs.Common.{◌∙◌, ap, List}
 use Rattle.tta_flow.specs.declared.flow.Block.{Block}
-use Rattle.tta_alloc.specs.Homes.{count_of}
+use Rattle.tta_lower.specs.Cited.{count_of}
 use Rattle.tta_lower.specs.Known.{known_by}
 use Rattle.tta_lower.specs.Lower.{lowered}
 use Rattle.tta_lower.proofs.Standing.{code-of}

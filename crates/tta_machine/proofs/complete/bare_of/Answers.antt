@@ -1,7 +1,6 @@
 use Rattle.std.proofs.Common.{◌≡◌, subst, sym, refl}
-use Rattle.tta_arch.specs.Machine.{Machine}
+use Rattle.tta_machine.specs.Cited.{Machine, IsMachine}
 use Rattle.tta_machine.specs.Draft.{machine_of, without_templates}
-use Rattle.tta_arch.specs.Rules.{IsMachine}
 use Rattle.tta_machine.proofs.Completed.{rules_without}
 use Rattle.tta_machine.proofs.complete.bare_of.Goals as goal
 

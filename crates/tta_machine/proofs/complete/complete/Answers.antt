@@ -1,6 +1,6 @@
 use Rattle.std.proofs.Common.{◌≡◌, Ok, Err, None, sym, subst, ap, ap₂, ◌∙◌}
 use Rattle.std.proofs.lemmas.Result.{err_from_is_err_and}
-use Rattle.tta_arch.specs.Machine.{Machine}
+use Rattle.tta_machine.specs.Cited.{Machine}
 use Rattle.tta_machine.specs.Text.{narrow_line}
 use Rattle.tta_machine.specs.Whole.{WidthsEnd}
 use Rattle.tta_machine.proofs.Completed.{whole_rules, whole_end, narrow_end}

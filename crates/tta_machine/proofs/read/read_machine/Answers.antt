@@ -1,5 +1,5 @@
 use Rattle.std.proofs.lemmas.Result.{err_from_is_err_and}
-use Rattle.tta_ops.specs.Set.{stated}
+use Rattle.tta_machine.specs.Cited.{stated}
 use Rattle.tta_machine.proofs.Whole.{lines_told, text_read, text_said, text_stands, text_told}
 use Rattle.tta_machine.proofs.read.read_machine.Goals as goal
 

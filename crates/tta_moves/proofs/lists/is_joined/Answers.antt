@@ -1,6 +1,6 @@
 use Rattle.std.proofs.Common.{arith, sym, length}
 use Rattle.std.specs.List.{range_with_len}
-use Rattle.tta_arch.specs.Joins.{joins}
+use Rattle.tta_moves.specs.Cited.{joins}
 use Rattle.tta_moves.specs.Slots.{carried}
 use Rattle.tta_moves.proofs.Buses.{joins_below, any_below, none_of}
 use Rattle.tta_moves.proofs.lists.is_joined.Goals as goal

@@ -1,9 +1,5 @@
 use Rattle.std.proofs.Common.{sym, subst}
-use Rattle.tta_ops.specs.Set.{stated}
-use Rattle.tta_cores.specs.Network.{joined}
-use Rattle.tta_cores.specs.Cluster.{first_states}
-use Rattle.tta_net.specs.Clusters.{feeds_of}
-use Rattle.tta_given.specs.declared.status.Status.{Status}
+use Rattle.tta_network.specs.Cited.{stated, joined, first_states, feeds_of, Status}
 use Rattle.tta_network.specs.Net.{HasMadeRounds}
 use Rattle.tta_network.proofs.RoundsMade.{made_rounds, cut_rounds}
 use Rattle.tta_network.proofs.command.make_rounds.Goals as goal

@@ -1,7 +1,7 @@
 use Rattle.std.proofs.Common.{ℕ, map, sym, ap, subst}
 use Rattle.std.proofs.lemmas.List.{length-map}
 use Rattle.std.specs.String.{string_bytes}
-use Rattle.tta_ops.specs.Set.{stated}
+use Rattle.tta_network.specs.Cited.{stated}
 use Rattle.tta_network.specs.CoreFiles.{cores_in, TakesCores}
 use Rattle.tta_network.proofs.RoundsMade.{cores_report}
 use Rattle.tta_network.proofs.command.net_of_links.Goals as goal

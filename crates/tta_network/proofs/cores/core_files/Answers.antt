@@ -1,8 +1,7 @@
 use Rattle.std.proofs.Common.{◌++◌, ◌∷◌, [], ◌+◌, ◌<◌, List, ℕ, map, sym, subst, arith}
 use Rattle.std.proofs.lemmas.Result.{err_from_is_err_and}
 use Rattle.std.specs.String.{string_bytes}
-use Rattle.tta_ops.specs.Set.{stated}
-use Rattle.tta_cores.specs.declared.cores.Core.{Core}
+use Rattle.tta_network.specs.Cited.{stated, Core}
 use Rattle.tta_network.proofs.CoresTaken.{AreTakenSoFar, one_more_taken, next_refused, next_lacks}
 use Rattle.tta_network.proofs.cores.core_files.Goals as goal
 

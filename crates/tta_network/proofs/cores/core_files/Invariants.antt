@@ -1,6 +1,6 @@
 use Rattle.std.proofs.Common.{◌≤◌, ◌-◌, map}
 use Rattle.std.specs.String.{string_bytes}
-use Rattle.tta_ops.specs.Set.{stated}
+use Rattle.tta_network.specs.Cited.{stated}
 use Rattle.tta_network.proofs.CoresTaken.{AreTakenSoFar}
 use Rattle.tta_network.proofs.cores.core_files.Given as goal
 

@@ -1,8 +1,7 @@
 use Rattle.std.proofs.Common.{ℕ, List, map, subst, inl}
 use Rattle.std.proofs.lemmas.Result.{err_from_is_err_and}
 use Rattle.std.specs.String.{string_bytes}
-use Rattle.tta_ops.specs.Set.{stated}
-use Rattle.tta_given.specs.Inputs.{RefusesInput}
+use Rattle.tta_network.specs.Cited.{stated, RefusesInput}
 use Rattle.tta_network.specs.CoreFiles.{name_of, CoreFileFails}
 use Rattle.tta_network.proofs.CoresTaken.{words_refused}
 use Rattle.tta_network.proofs.files.core_file.Goals as goal

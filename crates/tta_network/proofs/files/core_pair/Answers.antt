@@ -1,10 +1,7 @@
 use Rattle.std.proofs.Common.{ℕ, List, map, subst, inl}
 use Rattle.std.proofs.lemmas.Result.{err_from_is_err_and}
 use Rattle.std.specs.String.{string_bytes}
-use Rattle.tta_ops.specs.Set.{stated}
-use Rattle.tta_given.specs.Held.{IsTaken}
-use Rattle.tta_given.specs.Machines.{IsDescribed, RefusesMachine}
-use Rattle.tta_given.specs.Images.{RefusesImage}
+use Rattle.tta_network.specs.Cited.{stated, IsTaken, IsDescribed, RefusesMachine, RefusesImage}
 use Rattle.tta_network.specs.CoreFiles.{name_of, CoreFileFails}
 use Rattle.tta_network.proofs.CoresTaken.{image_refused}
 use Rattle.tta_network.proofs.files.core_pair.Goals as goal

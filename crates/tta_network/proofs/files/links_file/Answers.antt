@@ -1,6 +1,6 @@
 use Rattle.std.proofs.Common.{ℕ, List, subst, inl}
 use Rattle.std.proofs.lemmas.Result.{err_from_is_err_and}
-use Rattle.tta_given.specs.Held.{TakesBytes}
+use Rattle.tta_network.specs.Cited.{TakesBytes}
 use Rattle.tta_given.proofs.Taking.{file_taken}
 use Rattle.tta_network.specs.CoreFiles.{AreLinks, RefusesLinks}
 use Rattle.tta_network.proofs.files.links_file.Goals as goal

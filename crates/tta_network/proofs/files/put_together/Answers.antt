@@ -1,7 +1,5 @@
 use Rattle.std.proofs.Common.{length, sym, ap, ◌∙◌, subst}
-use Rattle.tta_code.specs.Whole.{laid_by}
-use Rattle.tta_code.specs.Legal.{IsLegalCode}
-use Rattle.tta_given.specs.declared.pair.CodePair.{CodePair}
+use Rattle.tta_network.specs.Cited.{laid_by, IsLegalCode, CodePair}
 use Rattle.tta_network.proofs.files.put_together.Goals as goal
 use Rattle.tta_list.proofs.Sets.{over-length}
 

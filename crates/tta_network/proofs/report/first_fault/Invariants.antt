@@ -1,5 +1,5 @@
 use Rattle.std.proofs.Common.{◌≡◌, ◌≤◌, ◌-◌}
-use Rattle.tta_net.specs.Clusters.{fault_by}
+use Rattle.tta_network.specs.Cited.{fault_by}
 use Rattle.tta_network.specs.Net.{first_fault}
 use Rattle.tta_network.proofs.report.first_fault.Given as goal
 

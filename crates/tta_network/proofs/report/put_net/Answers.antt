@@ -1,7 +1,6 @@
 use Rattle.std.proofs.Common.{◌+◌, ap, ◌∙◌, subst}
-use Rattle.tta_print.specs.Lines.{lines_text}
+use Rattle.tta_network.specs.Cited.{lines_text, words_of, fault_by}
 use Rattle.tta_print.proofs.Puts.{HasPut, put_more, put_part, part_is_put}
-use Rattle.tta_net.specs.Clusters.{words_of, fault_by}
 use Rattle.tta_network.specs.Net.{net_lines}
 use Rattle.tta_network.proofs.NetLines.{net_put}
 use Rattle.tta_network.proofs.report.put_net.Goals as goal

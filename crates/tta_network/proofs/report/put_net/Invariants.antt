@@ -1,7 +1,6 @@
 use Rattle.std.proofs.Common.{◌≡◌, drop}
-use Rattle.tta_print.specs.Lines.{lines_text}
+use Rattle.tta_network.specs.Cited.{lines_text, words_of, fault_by}
 use Rattle.tta_print.proofs.Puts.{HasPut}
-use Rattle.tta_net.specs.Clusters.{words_of, fault_by}
 use Rattle.tta_network.specs.Net.{net_lines}
 use Rattle.tta_network.proofs.report.put_net.Given as goal
 

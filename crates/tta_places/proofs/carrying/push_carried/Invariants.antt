@@ -1,8 +1,6 @@
 use Rattle.std.proofs.Common.{◌≡◌, ◌++◌, drop}
 use Rattle.std.specs.Prelude.{map}
-use Rattle.tta_code.specs.Cycle.{State}
-use Rattle.tta_sim.specs.Held.{Stands}
-use Rattle.tta_sim.specs.Places.{HasWritten}
+use Rattle.tta_places.specs.Cited.{State, Stands, HasWritten}
 use Rattle.tta_places.specs.Carried.{carried}
 use Rattle.tta_places.proofs.carrying.push_carried.Given as goal
 

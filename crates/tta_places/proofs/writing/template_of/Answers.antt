@@ -1,5 +1,5 @@
 use Rattle.std.proofs.Common.{subst}
-use Rattle.tta_arch.specs.Rules.{IsMachine}
+use Rattle.tta_places.specs.Cited.{IsMachine}
 use Rattle.tta_places.proofs.Slots.{template_at}
 use Rattle.tta_places.proofs.writing.template_of.Goals as goal
 

@@ -1,5 +1,5 @@
 use Rattle.std.proofs.Common.{◌≡◌, ◌-◌, ◌++◌, None, drop, get_or, subst, arith}
-use Rattle.tta_sim.specs.Places.{HasWritten}
+use Rattle.tta_places.specs.Cited.{HasWritten}
 use Rattle.tta_places.specs.Writes.{moves_write, slot_writes}
 use Rattle.tta_places.proofs.Wrote.{moves_next}
 use Rattle.tta_places.proofs.writing.write_moves.Goals as goal

@@ -1,8 +1,6 @@
 use Rattle.std.proofs.Common.{◌≡◌, ◌≤◌, ◌++◌, drop, length}
 use Rattle.std.specs.Prelude.{map}
-use Rattle.tta_arch.specs.Effects.{Written}
-use Rattle.tta_code.specs.Cycle.{State}
-use Rattle.tta_sim.specs.Places.{HasWritten}
+use Rattle.tta_places.specs.Cited.{Written, State, HasWritten}
 use Rattle.tta_places.specs.Carried.{carried}
 use Rattle.tta_places.specs.Writes.{moves_write}
 use Rattle.tta_places.proofs.writing.write_moves.Given as goal

@@ -1,4 +1,4 @@
-use Rattle.tta_ops.specs.Set.{stated}
+use Rattle.tta_play.specs.Cited.{stated}
 use Rattle.tta_play.proofs.Told.{goes}
 use Rattle.tta_play.proofs.cycling.cycle_once.Goals as goal
 

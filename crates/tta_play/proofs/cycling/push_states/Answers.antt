@@ -1,9 +1,7 @@
 use Rattle.std.proofs.Common.{◌≡◌, ℕ, suc, ◌-◌, ◌++◌, List, sym, ap, ◌∙◌, subst, arith}
 use Rattle.std.specs.Prelude.{slice_get}
 use Rattle.tta_list.specs.Input.{left as unread}
-use Rattle.tta_ops.specs.Set.{stated}
-use Rattle.tta_code.specs.Cycle.{State, next}
-use Rattle.tta_sim.specs.Held.{Stands}
+use Rattle.tta_play.specs.Cited.{stated, State, next, Stands}
 use Rattle.tta_play.specs.States.{state_text, whole_text, outs_text, spaces_text}
 use Rattle.tta_play.specs.Steps.{GoesBy, step_text}
 use Rattle.tta_list.proofs.Lists.{then_more}

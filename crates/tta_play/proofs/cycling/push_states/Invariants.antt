@@ -1,7 +1,5 @@
 use Rattle.std.proofs.Common.{◌≡◌, ◌+◌, ◌<◌, ◌^◌, ◌++◌}
-use Rattle.tta_ops.specs.Set.{stated}
-use Rattle.tta_code.specs.Cycle.{State, next}
-use Rattle.tta_sim.specs.Held.{Stands, IsRunOf}
+use Rattle.tta_play.specs.Cited.{stated, State, next, Stands, IsRunOf}
 use Rattle.tta_play.specs.States.{whole_text, states_text}
 use Rattle.tta_play.proofs.cycling.push_states.Given as goal
 

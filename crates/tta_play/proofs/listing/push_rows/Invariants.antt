@@ -1,6 +1,6 @@
 use Rattle.std.proofs.Common.{◌≡◌, ◌++◌, drop}
 use Rattle.std.specs.List.{flat_map, enumerate_from}
-use Rattle.tta_ops.specs.Set.{stated}
+use Rattle.tta_play.specs.Cited.{stated}
 use Rattle.tta_play.specs.Statement.{row_text}
 use Rattle.tta_play.proofs.listing.push_rows.Given as goal
 

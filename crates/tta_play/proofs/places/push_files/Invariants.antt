@@ -1,7 +1,6 @@
 use Rattle.std.proofs.Common.{◌≡◌, ◌++◌, drop}
 use Rattle.std.specs.List.{flat_map, enumerate_from}
-use Rattle.tta_code.specs.Cycle.{State}
-use Rattle.tta_sim.specs.Held.{Stands}
+use Rattle.tta_play.specs.Cited.{State, Stands}
 use Rattle.tta_play.specs.States.{file_text}
 use Rattle.tta_play.proofs.places.push_files.Given as goal
 

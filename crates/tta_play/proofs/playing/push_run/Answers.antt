@@ -1,8 +1,6 @@
 use Rattle.std.proofs.Common.{◌≡◌, ◌++◌, sym, ap, ◌∙◌, inl, inr}
-use Rattle.tta_list.specs.Iterate.{iterate}
+use Rattle.tta_play.specs.Cited.{iterate, stated, next}
 use Rattle.tta_list.proofs.Results.{onward}
-use Rattle.tta_ops.specs.Set.{stated}
-use Rattle.tta_code.specs.Cycle.{next}
 use Rattle.tta_play.specs.Statement.{played_text}
 use Rattle.tta_play.proofs.Skipped.{played_waiting}
 use Rattle.tta_play.proofs.playing.push_run.Goals as goal

@@ -1,10 +1,7 @@
 use Rattle.std.proofs.Common.{◌≡◌, ◌≤◌, ◌+◌, suc, ◌-◌, sym, ap, ◌∙◌, subst, arith}
 use Rattle.std.specs.Prelude.{slice_get}
 use Rattle.tta_list.specs.Input.{left as unread}
-use Rattle.tta_list.specs.Iterate.{iterate}
-use Rattle.tta_ops.specs.Set.{stated}
-use Rattle.tta_code.specs.Cycle.{State, next}
-use Rattle.tta_sim.specs.Held.{Stands}
+use Rattle.tta_play.specs.Cited.{iterate, stated, State, next, Stands}
 use Rattle.tta_play.specs.Steps.{IsAt}
 use Rattle.tta_play.proofs.Skipped.{on_after, one_first, over, ran_counts}
 use Rattle.tta_play.proofs.skipping.skip.Given as given

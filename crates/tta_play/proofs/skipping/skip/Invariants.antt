@@ -1,8 +1,5 @@
 use Rattle.std.proofs.Common.{◌≡◌, ◌+◌, ◌≤◌, ◌<◌, ◌^◌}
-use Rattle.tta_ops.specs.Set.{stated}
-use Rattle.tta_list.specs.Iterate.{iterate}
-use Rattle.tta_code.specs.Cycle.{State, next}
-use Rattle.tta_sim.specs.Held.{Stands, IsRunOf}
+use Rattle.tta_play.specs.Cited.{stated, iterate, State, next, Stands, IsRunOf}
 use Rattle.tta_play.proofs.skipping.skip.Given as goal
 
 abbrev pub decreases-cycles : goal.decreases-cycles

@@ -1,6 +1,5 @@
 use Rattle.std.proofs.Common.{◌≡◌, ◌≤◌, ◌-◌, ◌++◌}
-use Rattle.tta_code.specs.Cycle.{State}
-use Rattle.tta_sim.specs.Held.{Stands}
+use Rattle.tta_play.specs.Cited.{State, Stands}
 use Rattle.tta_play.specs.States.{immediate_word, words_text}
 use Rattle.tta_play.proofs.words.push_immediates.Given as goal
 

@@ -1,4 +1,4 @@
-use Rattle.tta_ops.specs.Set.{stated}
+use Rattle.tta_printed.specs.Cited.{stated}
 use Rattle.tta_printed.proofs.Pushing.{put_more, steps_more, step_put}
 use Rattle.tta_printed.proofs.print.push_steps.Goals as goal
 

@@ -3,16 +3,7 @@ use Rattle.std.specs.Prelude.{if◌then◌else◌, slice_get, slice_index, IfSom
 use Rattle.std.specs.List.{AllByRecursion}
 use Rattle.std.specs.Option.{option_copied, option_map_or}
 use Rattle.std.proofs.lemmas.Bool.{eq-eqb}
-use Rattle.tta_ops.specs.Set.{stated}
-use Rattle.tta_arch.specs.Joins.{has_bit}
-use Rattle.tta_arch.specs.Rules.{IsMachine}
-use Rattle.tta_code.specs.declared.code.Instruction.{Instruction}
-use Rattle.tta_code.specs.Cycle.{next}
-use Rattle.tta_sim.specs.Held.{is_halted}
-use Rattle.tta_sim.specs.Places.{HasWritten}
-use Rattle.tta_places.specs.Carried.{carried, coming, slots_of}
-use Rattle.tta_places.specs.Written.{is_slot_written_to}
-use Rattle.tta_places.specs.Writes.{writes_in}
+use Rattle.tta_profile.specs.Cited.{stated, has_bit, IsMachine, Instruction, next, is_halted, HasWritten, carried, coming, slots_of, is_slot_written_to, writes_in}
 use Rattle.tta_places.proofs.Onward.{written_on}
 use Rattle.tta_places.proofs.Slots.{possible_slots, written_next}
 use Rattle.tta_profile.specs.declared.outside.Space.TheVariants.{Data, Frame}

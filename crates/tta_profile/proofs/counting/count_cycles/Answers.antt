@@ -1,13 +1,8 @@
 use Rattle.std.proofs.Common.{◌≡◌, ℕ, suc, ◌+◌, ◌-◌, ◌*◌, ◌<◌, ◌^◌, List, length, sym, ap, ◌∙◌, subst, arith}
 use Rattle.std.specs.Prelude.{slice_get}
 use Rattle.std.proofs.lemmas.List.{length-replicate}
-use Rattle.tta_list.specs.Iterate.{iterate}
+use Rattle.tta_profile.specs.Cited.{iterate, stated, Instruction, State, next, Stands, HasWritten}
 use Rattle.tta_list.specs.Input.{left as unread}
-use Rattle.tta_ops.specs.Set.{stated}
-use Rattle.tta_code.specs.declared.code.Instruction.{Instruction}
-use Rattle.tta_code.specs.Cycle.{State, next}
-use Rattle.tta_sim.specs.Held.{Stands}
-use Rattle.tta_sim.specs.Places.{HasWritten}
 use Rattle.tta_profile.specs.Counts.{Counts, AreCounts}
 use Rattle.tta_profile.specs.Outside.{AreOutside}
 use Rattle.tta_profile.proofs.Tallies.{counts_begin, are_small, counts_on, counts_over, outside_begin, are_small_outside, outside_on, outside_over}

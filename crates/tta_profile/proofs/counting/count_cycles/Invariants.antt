@@ -1,9 +1,5 @@
 use Rattle.std.proofs.Common.{◌≡◌, ◌+◌, ◌-◌, ◌*◌, ◌<◌, ◌≤◌, ◌^◌, length}
-use Rattle.tta_list.specs.Iterate.{iterate}
-use Rattle.tta_ops.specs.Set.{stated}
-use Rattle.tta_code.specs.Cycle.{State, next}
-use Rattle.tta_sim.specs.Held.{Stands, IsRunOf}
-use Rattle.tta_sim.specs.Places.{HasWritten}
+use Rattle.tta_profile.specs.Cited.{iterate, stated, State, next, Stands, IsRunOf, HasWritten}
 use Rattle.tta_profile.specs.Counts.{AreCounts}
 use Rattle.tta_profile.specs.Outside.{AreOutside}
 use Rattle.tta_profile.proofs.counting.count_cycles.Given as goal

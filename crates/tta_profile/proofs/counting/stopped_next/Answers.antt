@@ -2,12 +2,8 @@ use Rattle.std.proofs.Common.{◌≡◌, ◌≤◌, ℕ, List, Option, Some, Non
 use Rattle.std.specs.Prelude.{slice_get, slice_index_or, option_and_then}
 use Rattle.std.specs.Option.{option_map_or}
 use Rattle.std.specs.List.{AllByRecursion}
-use Rattle.tta_arch.specs.Machine.{Machine}
-use Rattle.tta_arch.specs.Rules.{IsMachine}
-use Rattle.tta_code.specs.declared.code.Move.{Move}
-use Rattle.tta_code.specs.declared.code.Instruction.{Instruction}
+use Rattle.tta_profile.specs.Cited.{Machine, IsMachine, Move, Instruction, IsPossible, is_possible_slot}
 use Rattle.tta_arch.proofs.SetLemmas.{has_bit-empty}
-use Rattle.tta_sim.specs.Moves.{IsPossible, is_possible_slot}
 use Rattle.tta_profile.specs.Counts.{is_stopped}
 use Rattle.tta_profile.proofs.Guards.{possible_at}
 use Rattle.tta_profile.proofs.counting.stopped_next.Given as given

@@ -1,5 +1,5 @@
 use Rattle.std.proofs.Common.{◌≡◌, ◌+◌, ◌*◌, ◌<◌, ◌^◌, ◌==◌, ◌&&◌, ℕ, nat_lt, length, if◌then◌else◌, slice_index}
-use Rattle.tta_arch.specs.Joins.{has_bit}
+use Rattle.tta_profile.specs.Cited.{has_bit}
 use Rattle.tta_profile.proofs.counts.add_buses.Given as goal
 
 abbrev pub invariant-loop-bus : goal.invariant-loop-bus

@@ -1,6 +1,5 @@
 use Rattle.std.proofs.Common.{length, subst}
-use Rattle.tta_arch.specs.Rules.{IsMachine}
-use Rattle.tta_sim.specs.Held.{is_halted}
+use Rattle.tta_profile.specs.Cited.{IsMachine, is_halted}
 use Rattle.tta_places.proofs.Slots.{possible_slots}
 use Rattle.tta_profile.proofs.following.note_carried.Goals as goal
 

@@ -1,10 +1,7 @@
 use Rattle.std.proofs.Common.{◌≡◌, drop, length}
 use Rattle.std.specs.Prelude.{map}
 use Rattle.std.specs.List.{list_any}
-use Rattle.tta_arch.specs.Effects.{Written}
-use Rattle.tta_code.specs.Cycle.{State}
-use Rattle.tta_sim.specs.Places.{HasWritten}
-use Rattle.tta_places.specs.Carried.{carried}
+use Rattle.tta_profile.specs.Cited.{Written, State, HasWritten, carried}
 use Rattle.tta_profile.specs.Outside.{is_outside, words_of}
 use Rattle.tta_profile.proofs.outside.is_any_outside.Given as goal
 

@@ -1,6 +1,6 @@
 use Rattle.std.proofs.Common.{◌≡◌, ◌++◌, take}
 use Rattle.std.specs.List.{flat_map}
-use Rattle.tta_ops.specs.Set.{stated}
+use Rattle.tta_profile.specs.Cited.{stated}
 use Rattle.tta_profile.specs.Report.{hot_at_text}
 use Rattle.tta_profile.proofs.report.push_hottest.Given as goal
 

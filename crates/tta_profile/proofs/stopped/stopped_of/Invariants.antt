@@ -1,8 +1,6 @@
 use Rattle.std.proofs.Common.{◌≡◌, ℕ, nat_lt, ◌&&◌, false, None, slice_index_or}
 use Rattle.std.specs.Option.{option_map_or}
-use Rattle.tta_arch.specs.Joins.{has_bit}
-use Rattle.tta_code.specs.Cycle.{State}
-use Rattle.tta_sim.specs.Held.{Stands}
+use Rattle.tta_profile.specs.Cited.{has_bit, State, Stands}
 use Rattle.tta_profile.specs.Counts.{is_stopped}
 use Rattle.tta_profile.proofs.stopped.stopped_of.Given as goal
 

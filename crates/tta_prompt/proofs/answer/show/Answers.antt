@@ -1,6 +1,6 @@
 use Rattle.std.proofs.Common.{sym, subst, option_map}
 use Rattle.std.specs.Prelude.{Err}
-use Rattle.tta_sim.specs.Held.{Stands}
+use Rattle.tta_prompt.specs.Cited.{Stands}
 use Rattle.tta_prompt.specs.declared.error.PromptError.TheVariants.{SinkFailed}
 use Rattle.tta_prompt.specs.Prompted.{shown}
 use Rattle.tta_prompt.specs.Endings.{AnswersLine}

@@ -1,13 +1,7 @@
 use Rattle.std.proofs.Common.{rules, ◌≡◌, ◌<◌, ◌+◌, ◌-◌, ℕ, Bool, List, [], ◌∷◌, length, subst, arith}
 use Rattle.std.specs.Prelude.{Ok, Err, Result}
-use Rattle.tta_ops.specs.Set.{stated}
-use Rattle.tta_ops.specs.Units.{Units}
-use Rattle.tta_arch.specs.Machine.{Machine}
+use Rattle.tta_prompt.specs.Cited.{stated, Units, Machine, Output, LineError, Come, Comes, IfLine, with_lines, Debugged}
 use Rattle.tta_code.specs.declared.code.Code.{Code}
-use Rattle.tta_ports.specs.Output.{Output}
-use Rattle.tta_lines.specs.declared.error.LineError.{LineError}
-use Rattle.tta_lines.specs.Come.{Come, Comes, IfLine, with_lines}
-use Rattle.tta_debug.specs.Debugged.{Debugged}
 use Rattle.tta_prompt.specs.declared.error.PromptError.{PromptError}
 use Rattle.tta_prompt.specs.Prompted.{prompt_line, prompted}
 use Rattle.tta_prompt.specs.Endings.{AnswersLine}

@@ -1,8 +1,5 @@
 use Rattle.std.proofs.Common.{◌+◌, ◌*◌, ◌<◌, ◌≤◌, ◌^◌}
-use Rattle.tta_ops.specs.Set.{stated}
-use Rattle.tta_sim.specs.Held.{IsRunOf}
-use Rattle.tta_debug.specs.Debugged.{Debugged}
-use Rattle.tta_debug.specs.Sessions.{Follows}
+use Rattle.tta_prompt.specs.Cited.{stated, IsRunOf, Debugged, Follows}
 use Rattle.tta_prompt.proofs.Sessions.{Kept}
 use Rattle.tta_prompt.proofs.prompt.run_prompt.Given as goal
 

@@ -1,7 +1,6 @@
 use Rattle.std.proofs.Common.{◌≡◌, ◌++◌, drop}
 use Rattle.std.specs.List.{flat_map, enumerate_from}
-use Rattle.tta_code.specs.Cycle.{State}
-use Rattle.tta_sim.specs.Held.{Stands}
+use Rattle.tta_prompt.specs.Cited.{State, Stands}
 use Rattle.tta_prompt.specs.Texts.{file_lines}
 use Rattle.tta_prompt.proofs.registers.push_files.Given as goal
 

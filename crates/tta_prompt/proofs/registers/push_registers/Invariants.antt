@@ -1,6 +1,5 @@
 use Rattle.std.proofs.Common.{◌≡◌, ◌≤◌, ◌-◌, ◌++◌}
-use Rattle.tta_code.specs.Cycle.{State}
-use Rattle.tta_sim.specs.Held.{Stands}
+use Rattle.tta_prompt.specs.Cited.{State, Stands}
 use Rattle.tta_prompt.specs.Texts.{register_word, register_lines}
 use Rattle.tta_prompt.proofs.registers.push_registers.Given as goal
 

@@ -1,10 +1,7 @@
 use Rattle.std.proofs.Common.{◌≡◌, ℕ, List, true, false, sym, ap, ◌∙◌}
 use Rattle.std.specs.Prelude.{not}
 use Rattle.std.specs.List.{list_all}
-use Rattle.tta_arch.specs.Effects.{KeptReg}
-use Rattle.tta_moves.specs.declared.items.Item.{Item}
-use Rattle.tta_moves.specs.Touches.{reads}
-use Rattle.tta_moves.specs.Runs.{lives}
+use Rattle.tta_reload.specs.Cited.{KeptReg, Item, reads, lives}
 use Rattle.tta_reload.proofs.SpareRegisters.{spare_more}
 use Rattle.tta_reload.proofs.sparing.add_spare.Goals as goal
 

@@ -1,6 +1,6 @@
 use Rattle.std.proofs.Common.{◌≡◌, ◌++◌, ◌∷◌, [], List, ℕ, OnOk, subst, sym, ◌∙◌, ap}
 use Rattle.std.proofs.lemmas.List.{append-nil}
-use Rattle.tta_hardware.specs.Signals.{Controls, GoalNow, EndsNow, Lands, Asks, Gives, Goes, NextPc, Puts, PutWord}
+use Rattle.tta_rtl.specs.Cited.{Controls, GoalNow, EndsNow, Lands, Asks, Gives, Goes, NextPc, Puts, PutWord}
 use Rattle.tta_rtl.specs.Texts.{wires_text}
 use Rattle.tta_rtl.proofs.UnitWires.{wire_more}
 use Rattle.tta_rtl.proofs.control.push_control.Goals as goal

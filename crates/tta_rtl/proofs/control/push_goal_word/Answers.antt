@@ -1,8 +1,7 @@
 use Rattle.std.proofs.Common.{◌≡◌, List, ℕ, OnOk, codes, subst}
 use Rattle.tta_arch.specs.declared.ends.Dest.TheVariants as dest
-use Rattle.tta_hardware.specs.Signals.{GoalNow}
-use Rattle.tta_hardware.specs.Wires.{arrivals, made_of}
-use Rattle.tta_names.specs.Names.{text_of}
+use Rattle.tta_rtl.specs.Cited.{GoalNow, arrivals, text_of}
+use Rattle.tta_hardware.specs.Wires.{made_of}
 use Rattle.tta_rtl.specs.Texts.{choices}
 use Rattle.tta_rtl.proofs.Pieces.{three}
 use Rattle.tta_rtl.proofs.UnitWires.{goal_text}

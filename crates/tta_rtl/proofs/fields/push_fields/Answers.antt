@@ -2,9 +2,7 @@ use Rattle.std.proofs.Common.{◌≡◌, ℕ, List, [], ◌∷◌, ◌++◌, len
 use Rattle.std.specs.List.{flat_map}
 use Rattle.tta_list.proofs.Lists.{then_more}
 use Rattle.tta_list.proofs.Results.{onward}
-use Rattle.tta_arch.specs.Fields.{numbers, template_width}
-use Rattle.tta_hardware.specs.Signals.{TemplateOf, LongOf}
-use Rattle.tta_hardware.specs.Hardware.{bus_fields, with_bits}
+use Rattle.tta_rtl.specs.Cited.{numbers, template_width, TemplateOf, LongOf, bus_fields, with_bits}
 use Rattle.tta_rtl.specs.Parts.{fields_text}
 use Rattle.tta_rtl.proofs.Texts.{all_fields_text}
 use Rattle.tta_rtl.proofs.fields.push_fields.Goals as goal

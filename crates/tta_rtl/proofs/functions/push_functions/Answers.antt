@@ -1,5 +1,5 @@
 use Rattle.std.proofs.Common.{◌≡◌, arith}
-use Rattle.tta_ops.specs.Set.{stated}
+use Rattle.tta_rtl.specs.Cited.{stated}
 use Rattle.tta_rtl.specs.Functions.{offered_text}
 use Rattle.tta_rtl.proofs.Texts.{number_more}
 use Rattle.tta_rtl.proofs.functions.push_functions.Goals as goal

@@ -1,7 +1,6 @@
 use Rattle.std.proofs.Common.{◌≡◌, ◌++◌}
 use Rattle.std.specs.List.{flat_map}
-use Rattle.tta_ops.specs.Set.{stated}
-use Rattle.tta_arch.specs.Fields.{numbers}
+use Rattle.tta_rtl.specs.Cited.{stated, numbers}
 use Rattle.tta_rtl.specs.Functions.{offered_text}
 use Rattle.tta_rtl.proofs.functions.push_functions.Given as goal
 

@@ -2,8 +2,7 @@ use Rattle.std.proofs.Common.{List, ℕ, ◌++◌, sym, ap, ◌∙◌}
 use Rattle.std.specs.List.{flat_map, enumerate_from}
 use Rattle.tta_list.proofs.Lists.{then_more}
 use Rattle.tta_list.proofs.Results.{onward}
-use Rattle.tta_arch.specs.Effects.{KeptImm}
-use Rattle.tta_names.specs.Names.{place_name}
+use Rattle.tta_rtl.specs.Cited.{KeptImm, place_name}
 use Rattle.tta_rtl.specs.Kept.{long_choice}
 use Rattle.tta_rtl.proofs.RegisterTexts.{imm_next}
 use Rattle.tta_rtl.proofs.longs.push_imm_next.Goals as goal

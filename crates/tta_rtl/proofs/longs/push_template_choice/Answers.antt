@@ -2,7 +2,7 @@ use Rattle.std.proofs.Common.{List, ℕ, ◌++◌}
 use Rattle.std.specs.Prelude.{codes}
 use Rattle.tta_list.proofs.Lists.{then_more}
 use Rattle.tta_list.proofs.Results.{onward}
-use Rattle.tta_names.specs.Names.{text_of}
+use Rattle.tta_rtl.specs.Cited.{text_of}
 use Rattle.tta_rtl.specs.Kept.{has_template, template_choice}
 use Rattle.tta_rtl.specs.Texts.{choice_start}
 use Rattle.tta_rtl.proofs.longs.push_template_choice.Goals as goal

@@ -2,7 +2,7 @@ use Rattle.std.proofs.Common.{List, ℕ, ◌++◌}
 use Rattle.std.specs.Prelude.{codes}
 use Rattle.tta_list.proofs.Lists.{then_more}
 use Rattle.tta_list.proofs.Results.{onward}
-use Rattle.tta_verilog.specs.Circuits.{range}
+use Rattle.tta_rtl.specs.Cited.{range}
 use Rattle.tta_rtl.proofs.pins.push_common_ports.Goals as goal
 
 pub returns : goal.returns

@@ -1,8 +1,6 @@
 use Rattle.std.proofs.Common.{◌≡◌, ◌-◌, List, ℕ, OnOk, subst}
 use Rattle.std.specs.List.{flat_map, enumerate_from, range_with_len}
-use Rattle.tta_arch.specs.Effects.{KeptOperand, KeptPort}
-use Rattle.tta_hardware.specs.Signals.{Keeps}
-use Rattle.tta_hardware.specs.Wires.{longest}
+use Rattle.tta_rtl.specs.Cited.{KeptOperand, KeptPort, Keeps, longest}
 use Rattle.tta_rtl.specs.Texts.{due_text, due_word_text, load_text, register_of, unit_registers_text}
 use Rattle.tta_rtl.proofs.Pieces.{five}
 use Rattle.tta_rtl.proofs.UnitRegisters.{unit_registers_parts}

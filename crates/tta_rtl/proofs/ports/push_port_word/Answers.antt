@@ -1,9 +1,5 @@
 use Rattle.std.proofs.Common.{◌≡◌, List, ℕ, OnOk, subst}
-use Rattle.tta_arch.specs.Effects.{KeptPort}
-use Rattle.tta_circuit.specs.Circuit.{Signal}
-use Rattle.tta_hardware.specs.Signals.{Keeps}
-use Rattle.tta_hardware.specs.Wires.{fresh}
-use Rattle.tta_names.specs.Names.{text_of}
+use Rattle.tta_rtl.specs.Cited.{KeptPort, Signal, Keeps, fresh, text_of}
 use Rattle.tta_rtl.specs.Texts.{fresh_choices}
 use Rattle.tta_rtl.proofs.Pieces.{two}
 use Rattle.tta_rtl.proofs.Shown.{fresh_or}

@@ -3,9 +3,7 @@ use Rattle.std.specs.List.{flat_map}
 use Rattle.tta_list.proofs.Lists.{then_more}
 use Rattle.tta_list.proofs.Results.{onward}
 use Rattle.tta_arch.specs.declared.ends.Dest.TheVariants as dest
-use Rattle.tta_arch.specs.Effects.{KeptReg}
-use Rattle.tta_arch.specs.Fields.{numbers}
-use Rattle.tta_names.specs.Names.{place_name}
+use Rattle.tta_rtl.specs.Cited.{KeptReg, numbers, place_name}
 use Rattle.tta_rtl.specs.Kept.{brought}
 use Rattle.tta_rtl.proofs.RegisterTexts.{file_next}
 use Rattle.tta_rtl.proofs.registers.push_file_next.Goals as goal

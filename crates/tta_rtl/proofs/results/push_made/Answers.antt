@@ -1,8 +1,6 @@
 use Rattle.std.proofs.Common.{◌≡◌, List, ℕ, OnOk, subst}
 use Rattle.std.specs.List.{flat_map, enumerate_from}
-use Rattle.tta_hardware.specs.Wires.{made}
-use Rattle.tta_verilog.specs.Expressions.{constant}
-use Rattle.tta_names.specs.Names.{text_of}
+use Rattle.tta_rtl.specs.Cited.{made, constant, text_of}
 use Rattle.tta_rtl.specs.Texts.{made_choice}
 use Rattle.tta_rtl.proofs.Pieces.{two}
 use Rattle.tta_rtl.proofs.Shown.{made_text}

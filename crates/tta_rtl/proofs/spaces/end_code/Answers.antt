@@ -2,8 +2,7 @@ use Rattle.std.proofs.Common.{◌++◌}
 use Rattle.std.specs.Prelude.{codes}
 use Rattle.tta_list.proofs.Lists.{then_more}
 use Rattle.tta_list.proofs.Results.{onward}
-use Rattle.tta_verilog.specs.Expressions.{constant}
-use Rattle.tta_verilog.specs.Circuits.{case_end}
+use Rattle.tta_rtl.specs.Cited.{constant, case_end}
 use Rattle.tta_rtl.proofs.spaces.end_code.Goals as goal
 
 pub returns : goal.returns

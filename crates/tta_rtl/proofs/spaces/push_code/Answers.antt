@@ -3,10 +3,7 @@ use Rattle.std.specs.Prelude.{codes}
 use Rattle.std.specs.List.{flat_map}
 use Rattle.tta_list.proofs.Lists.{then_more}
 use Rattle.tta_list.proofs.Results.{onward}
-use Rattle.tta_arch.specs.declared.layout.Layout.{Layout}
-use Rattle.tta_arch.specs.Fields.{numbers, word_width}
-use Rattle.tta_image.specs.Decoding.{bits_in, field}
-use Rattle.tta_verilog.specs.Circuits.{case_start, case_line, case_end}
+use Rattle.tta_rtl.specs.Cited.{Layout, numbers, word_width, bits_in, field, case_start, case_line, case_end}
 use Rattle.tta_rtl.proofs.Digits.{words_by_number}
 use Rattle.tta_rtl.proofs.spaces.push_code.Goals as goal
 

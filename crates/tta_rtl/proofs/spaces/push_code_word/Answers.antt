@@ -2,8 +2,7 @@ use Rattle.std.proofs.Common.{◌≡◌, ℕ, List, ◌++◌, ap, ◌∙◌}
 use Rattle.std.specs.Prelude.{codes, decimal}
 use Rattle.tta_list.proofs.Lists.{then_more}
 use Rattle.tta_list.proofs.Results.{onward}
-use Rattle.tta_image.specs.Decoding.{bits_in, field}
-use Rattle.tta_verilog.specs.Circuits.{bits_text, case_line}
+use Rattle.tta_rtl.specs.Cited.{bits_in, field, bits_text, case_line}
 use Rattle.tta_rtl.proofs.Digits.{digits_of_field}
 use Rattle.tta_rtl.proofs.spaces.push_code_word.Goals as goal
 

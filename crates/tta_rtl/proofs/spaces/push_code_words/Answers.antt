@@ -1,7 +1,6 @@
 use Rattle.std.proofs.Common.{◌*◌, arith}
 use Rattle.std.specs.Prelude.{codes}
-use Rattle.tta_image.specs.Decoding.{bits_in, field}
-use Rattle.tta_verilog.specs.Circuits.{case_line}
+use Rattle.tta_rtl.specs.Cited.{bits_in, field, case_line}
 use Rattle.tta_rtl.proofs.Texts.{number_more}
 use Rattle.tta_rtl.proofs.spaces.push_code_words.Goals as goal
 

@@ -1,9 +1,7 @@
 use Rattle.std.proofs.Common.{◌≡◌, ◌++◌, ◌*◌}
 use Rattle.std.specs.Prelude.{codes}
 use Rattle.std.specs.List.{flat_map}
-use Rattle.tta_arch.specs.Fields.{numbers}
-use Rattle.tta_image.specs.Decoding.{bits_in, field}
-use Rattle.tta_verilog.specs.Circuits.{case_line}
+use Rattle.tta_rtl.specs.Cited.{numbers, bits_in, field, case_line}
 use Rattle.tta_rtl.proofs.spaces.push_code_words.Given as goal
 
 -- the words so far

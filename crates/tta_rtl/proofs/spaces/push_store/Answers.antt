@@ -2,8 +2,7 @@ use Rattle.std.proofs.Common.{ℕ, List, ◌++◌}
 use Rattle.std.specs.Prelude.{codes}
 use Rattle.tta_list.proofs.Lists.{then_more}
 use Rattle.tta_list.proofs.Results.{onward}
-use Rattle.tta_names.specs.Names.{text_of}
-use Rattle.tta_verilog.specs.Circuits.{write_line}
+use Rattle.tta_rtl.specs.Cited.{text_of, write_line}
 use Rattle.tta_rtl.specs.Memories.{stored}
 use Rattle.tta_rtl.specs.Texts.{places_of}
 use Rattle.tta_rtl.proofs.spaces.push_store.Goals as goal

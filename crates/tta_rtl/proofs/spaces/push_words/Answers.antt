@@ -1,6 +1,6 @@
 use Rattle.std.proofs.lemmas.List.{get_or_default}
 use Rattle.tta_arch.proofs.CodeLists.{pieces_more}
-use Rattle.tta_verilog.specs.Circuits.{first_line}
+use Rattle.tta_rtl.specs.Cited.{first_line}
 use Rattle.tta_rtl.proofs.spaces.push_words.Goals as goal
 
 pub loop-k-preserved : goal.loop-k-preserved

@@ -1,6 +1,6 @@
 use Rattle.std.proofs.Common.{◌≡◌, ◌++◌, drop}
 use Rattle.std.specs.List.{flat_map, enumerate_from}
-use Rattle.tta_verilog.specs.Circuits.{first_line}
+use Rattle.tta_rtl.specs.Cited.{first_line}
 use Rattle.tta_rtl.proofs.spaces.push_words.Given as goal
 
 -- what stands so far and the rest of the words are all of them

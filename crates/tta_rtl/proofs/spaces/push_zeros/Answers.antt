@@ -2,8 +2,7 @@ use Rattle.std.proofs.Common.{◌≡◌, ℕ, ◌++◌, ap, ◌∙◌}
 use Rattle.std.specs.Prelude.{codes, decimal}
 use Rattle.tta_list.proofs.Lists.{then_more}
 use Rattle.tta_list.proofs.Results.{onward}
-use Rattle.tta_verilog.specs.Circuits.{array_zeros}
-use Rattle.tta_verilog.specs.Expressions.{constant}
+use Rattle.tta_rtl.specs.Cited.{array_zeros, constant}
 use Rattle.tta_rtl.proofs.spaces.push_zeros.Goals as goal
 
 pub returns : goal.returns

@@ -1,8 +1,8 @@
 use Rattle.std.proofs.Common.{◌≡◌, List, ℕ, [], ◌++◌, sym, ap, ◌∙◌}
 use Rattle.tta_list.proofs.Lists.{then_more}
 use Rattle.tta_list.proofs.Results.{onward}
-use Rattle.tta_arch.specs.Effects.{KeptRa}
-use Rattle.tta_hardware.specs.Signals.{Signal as Named, Keeps, Pc, Whole, HasHalted, Goal, Ends}
+use Rattle.tta_rtl.specs.Cited.{KeptRa, Keeps, Pc, HasHalted, Goal, Ends}
+use Rattle.tta_hardware.specs.Signals.{Signal as Named, Whole}
 use Rattle.tta_rtl.specs.Kept.{fixed, line_of, underways}
 use Rattle.tta_rtl.specs.Texts.{registers_text}
 use Rattle.tta_rtl.proofs.Texts.{alone}

@@ -1,8 +1,7 @@
 use Rattle.std.proofs.Common.{◌≡◌, List, ℕ, true, ◌++◌, ap, ◌∙◌}
 use Rattle.std.specs.Prelude.{codes}
 use Rattle.tta_list.proofs.Results.{onward}
-use Rattle.tta_arch.specs.declared.layout.Layout.{Layout}
-use Rattle.tta_verilog.specs.Expressions.{reading}
+use Rattle.tta_rtl.specs.Cited.{Layout, reading}
 use Rattle.tta_rtl.specs.Texts.{register_line}
 use Rattle.tta_rtl.proofs.states.push_word.Goals as goal
 

@@ -1,8 +1,6 @@
 use Rattle.std.proofs.Common.{◌≡◌, List, ℕ, OnOk, subst}
 use Rattle.tta_arch.specs.declared.ends.Dest.TheVariants as dest
-use Rattle.tta_arch.specs.Effects.{KeptOperand}
-use Rattle.tta_hardware.specs.Wires.{arrivals, operand_now}
-use Rattle.tta_names.specs.Names.{place_name, text_of}
+use Rattle.tta_rtl.specs.Cited.{KeptOperand, arrivals, operand_now, place_name, text_of}
 use Rattle.tta_rtl.specs.Texts.{choices}
 use Rattle.tta_rtl.proofs.Pieces.{two}
 use Rattle.tta_rtl.proofs.UnitWires.{operand_text}

@@ -1,7 +1,5 @@
 use Rattle.std.proofs.Common.{◌≡◌, List, ℕ, OnOk, subst}
-use Rattle.tta_hardware.specs.Wires.{trigger_word}
-use Rattle.tta_verilog.specs.Expressions.{constant}
-use Rattle.tta_names.specs.Names.{text_of}
+use Rattle.tta_rtl.specs.Cited.{trigger_word, constant, text_of}
 use Rattle.tta_rtl.specs.Texts.{triggers}
 use Rattle.tta_rtl.proofs.Pieces.{two}
 use Rattle.tta_rtl.proofs.UnitWires.{trigger_text}

@@ -1,10 +1,6 @@
 use Rattle.std.proofs.Common.{◌≡◌, List, ℕ, OnOk, length, subst}
 use Rattle.std.specs.List.{flat_map}
-use Rattle.tta_arch.specs.Fields.{numbers}
-use Rattle.tta_hardware.specs.Signals.{Trigger, Operand}
-use Rattle.tta_hardware.specs.Hardware.{wire}
-use Rattle.tta_verilog.specs.Circuits.{wire_text}
-use Rattle.tta_names.specs.Names.{names_of}
+use Rattle.tta_rtl.specs.Cited.{numbers, Trigger, Operand, wire, wire_text, names_of}
 use Rattle.tta_rtl.specs.Texts.{start_text, unit_text}
 use Rattle.tta_rtl.proofs.Pieces.{three}
 use Rattle.tta_rtl.proofs.UnitWires.{unit_parts}

@@ -1,9 +1,7 @@
 use Rattle.std.proofs.Common.{◌≡◌, ℕ, List, [], ◌++◌, ◌<◌, ◌^◌, length, drop, ap, ◌∙◌, arith}
 use Rattle.tta_list.proofs.Results.{onward}
-use Rattle.tta_ops.specs.Set.{stated}
-use Rattle.tta_arch.specs.declared.layout.Layout.{Layout}
+use Rattle.tta_rtl.specs.Cited.{stated, Layout, circuit_with, code_words}
 use Rattle.tta_code.specs.Whole.{Whole}
-use Rattle.tta_hardware.specs.Hardware.{circuit_with, code_words}
 use Rattle.tta_rtl.specs.Memories.{bytes_before, words_in}
 use Rattle.tta_rtl.specs.Module.{module_of}
 use Rattle.tta_rtl.proofs.Layouts.{layout_fits}

@@ -4,10 +4,8 @@ use Rattle.std.specs.List.{flat_map, enumerate_from}
 use Rattle.std.proofs.lemmas.List.{length-replicate}
 use Rattle.tta_list.proofs.Lists.{then_more}
 use Rattle.tta_list.proofs.Results.{onward}
-use Rattle.tta_arch.specs.Machine.{Machine}
-use Rattle.tta_hardware.specs.Hardware.{rom}
-use Rattle.tta_names.specs.Names.{names_of}
-use Rattle.tta_verilog.specs.Circuits.{array_start, first_line, function_text}
+use Rattle.tta_rtl.specs.Cited.{Machine, rom, names_of, array_start, first_line}
+use Rattle.tta_verilog.specs.Circuits.{function_text}
 use Rattle.tta_rtl.specs.Memories.{space_text, words_in}
 use Rattle.tta_rtl.proofs.Modules.{no_lines}
 use Rattle.tta_rtl.proofs.Texts.{alone}

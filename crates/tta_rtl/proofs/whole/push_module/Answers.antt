@@ -1,8 +1,7 @@
 use Rattle.std.proofs.Common.{List, ℕ, ◌++◌}
 use Rattle.tta_list.proofs.Lists.{then_more}
 use Rattle.tta_list.proofs.Results.{onward}
-use Rattle.tta_ops.specs.Set.{stated}
-use Rattle.tta_hardware.specs.Hardware.{circuit_with}
+use Rattle.tta_rtl.specs.Cited.{stated, circuit_with}
 use Rattle.tta_rtl.specs.Memories.{words_in}
 use Rattle.tta_rtl.specs.Module.{before_parts, core_text, shown_text}
 use Rattle.tta_rtl.proofs.whole.push_module.Goals as goal

@@ -2,8 +2,7 @@ use Rattle.std.proofs.Common.{◌≡◌, List, ℕ, [], ◌++◌, true, false, s
 use Rattle.std.proofs.lemmas.List.{append-nil}
 use Rattle.tta_list.proofs.Lists.{then_more}
 use Rattle.tta_list.proofs.Results.{onward}
-use Rattle.tta_ops.specs.Set.{stated}
-use Rattle.tta_hardware.specs.Hardware.{circuit_with, register_names, wire_names}
+use Rattle.tta_rtl.specs.Cited.{stated, circuit_with, register_names, wire_names}
 use Rattle.tta_rtl.specs.Functions.{functions_text}
 use Rattle.tta_rtl.specs.Memories.{words_in}
 use Rattle.tta_rtl.specs.Module.{memories_text, stores_text}

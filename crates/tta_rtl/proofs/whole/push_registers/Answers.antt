@@ -2,7 +2,7 @@ use Rattle.std.proofs.Common.{◌≡◌, List, ℕ, ◌++◌, sym, ap, ◌∙◌
 use Rattle.std.specs.List.{flat_map, enumerate_from}
 use Rattle.tta_list.proofs.Lists.{then_more}
 use Rattle.tta_list.proofs.Results.{onward}
-use Rattle.tta_hardware.specs.Hardware.{unit_registers}
+use Rattle.tta_rtl.specs.Cited.{unit_registers}
 use Rattle.tta_rtl.specs.Kept.{underways, fixed}
 use Rattle.tta_rtl.specs.Texts.{registers_text}
 use Rattle.tta_rtl.proofs.Modules.{kept_names, registers_parts}

@@ -1,7 +1,7 @@
 use Rattle.std.proofs.Common.{◌≡◌, List, ℕ, ◌++◌, ap, ◌∙◌}
 use Rattle.tta_list.proofs.Results.{onward}
-use Rattle.tta_circuit.specs.Circuit.{WritePort}
-use Rattle.tta_hardware.specs.Signals.{Signal as Named, Store}
+use Rattle.tta_rtl.specs.Cited.{WritePort, Store}
+use Rattle.tta_hardware.specs.Signals.{Signal as Named}
 use Rattle.tta_rtl.specs.Module.{store_line}
 use Rattle.tta_rtl.specs.Texts.{places_of}
 use Rattle.tta_rtl.proofs.Modules.{stored_is}

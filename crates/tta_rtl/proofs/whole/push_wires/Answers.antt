@@ -2,9 +2,7 @@ use Rattle.std.proofs.Common.{◌≡◌, List, ℕ, ◌++◌, length, map, sym, 
 use Rattle.std.specs.List.{flat_map, enumerate_from}
 use Rattle.tta_list.proofs.Lists.{then_more}
 use Rattle.tta_list.proofs.Results.{onward}
-use Rattle.tta_arch.specs.Fields.{numbers}
-use Rattle.tta_hardware.specs.Signals.{Fetched, Port}
-use Rattle.tta_hardware.specs.Hardware.{all_fields, bus_wires, unit_wires}
+use Rattle.tta_rtl.specs.Cited.{numbers, Fetched, Port, all_fields, bus_wires, unit_wires}
 use Rattle.tta_rtl.specs.Texts.{wires_text}
 use Rattle.tta_rtl.proofs.Layouts.{layout_count}
 use Rattle.tta_rtl.proofs.Modules.{control_names, wires_parts}

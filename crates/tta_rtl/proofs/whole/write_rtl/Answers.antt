@@ -1,8 +1,6 @@
 use Rattle.std.proofs.Common.{◌≡◌, ℕ, List, [], ◌++◌, Bool, length, ap, ◌∙◌}
 use Rattle.std.specs.Prelude.{codes}
-use Rattle.tta_ops.specs.Set.{stated}
-use Rattle.tta_arch.specs.declared.parts.Op.TheVariants.{Out, Take}
-use Rattle.tta_hardware.specs.Hardware.{circuit_of}
+use Rattle.tta_rtl.specs.Cited.{stated, Out, Take, circuit_of}
 use Rattle.tta_rtl.specs.Module.{module_of, offers}
 use Rattle.tta_rtl.proofs.Modules.{first_count}
 use Rattle.tta_rtl.proofs.whole.write_rtl.Goals as goal

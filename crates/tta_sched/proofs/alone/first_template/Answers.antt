@@ -1,5 +1,5 @@
 use Rattle.std.proofs.Common.{◌≤◌, length, arith, rules}
-use Rattle.tta_moves.specs.Slots.{fills}
+use Rattle.tta_sched.specs.Cited.{fills}
 use Rattle.tta_sched.proofs.Entries.{none_passes}
 use Rattle.tta_sched.proofs.alone.first_template.Goals as goal
 

@@ -1,7 +1,6 @@
 use Rattle.std.proofs.Common.{◌≡◌, false, true, sym, length, subst}
 use Rattle.std.specs.List.{range_with_len, list_any}
-use Rattle.tta_arch.specs.Joins.{joins}
-use Rattle.tta_moves.specs.Slots.{carried, has_slot}
+use Rattle.tta_sched.specs.Cited.{joins, carried, has_slot}
 use Rattle.tta_moves.proofs.Buses.{none_of}
 use Rattle.tta_sched.proofs.alone.slot_alone.Goals as goal
 

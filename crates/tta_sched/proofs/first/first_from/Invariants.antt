@@ -1,5 +1,5 @@
 use Rattle.std.proofs.Common.{◌≤◌, List}
-use Rattle.tta_moves.specs.declared.items.PlacedItem.{PlacedItem}
+use Rattle.tta_sched.specs.Cited.{PlacedItem}
 use Rattle.tta_sched.specs.First.{Asks}
 use Rattle.tta_sched.proofs.Fitting.{Tried}
 use Rattle.tta_sched.proofs.first.first_from.Given as goal

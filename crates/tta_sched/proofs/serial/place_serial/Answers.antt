@@ -3,7 +3,7 @@ use Rattle.std.specs.Prelude.{◌&&◌, nat_le}
 use Rattle.std.specs.List.{list_all}
 use Rattle.std.proofs.lemmas.List.{take_all}
 use Rattle.std.proofs.lemmas.Bool.{and_parts}
-use Rattle.tta_moves.specs.Slots.{has_slot, control_is_last}
+use Rattle.tta_sched.specs.Cited.{has_slot, control_is_last}
 use Rattle.tta_sched.specs.Serial.{StandsAlone, serial_length}
 use Rattle.tta_sched.proofs.Ones.{each_push, order_step, end_step, serial_long, serial_respects}
 use Rattle.tta_sched.proofs.Firsts.{serial_has_room}

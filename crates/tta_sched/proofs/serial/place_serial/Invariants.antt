@@ -1,7 +1,6 @@
 use Rattle.std.proofs.Common.{◌≡◌, ℕ, ◌*◌, ◌≤◌, map, take, Some}
 use Rattle.std.specs.Prelude.{slice_get}
-use Rattle.tta_moves.specs.declared.items.PlacedItem.{PlacedItem}
-use Rattle.tta_depend.specs.Stands.{end_of}
+use Rattle.tta_sched.specs.Cited.{PlacedItem, end_of}
 use Rattle.tta_sched.specs.Serial.{StandsAlone}
 use Rattle.tta_sched.proofs.serial.place_serial.Given as goal
 

@@ -1,8 +1,7 @@
 use Rattle.std.proofs.Common.{◌+◌, ◌<◌, ℕ, length, map, refl, sym, ap, ◌∙◌, subst, arith, append_assoc}
 use Rattle.std.specs.Prelude.{◌&&◌, is_some, is_none, option_map, fold}
 use Rattle.std.specs.List.{find, list_any, filter_map, AllByRecursion}
-use Rattle.tta_ops.specs.Set.{stated}
-use Rattle.tta_arch.specs.Effects.{write_of, first_some, store_data, store_frame, takes}
+use Rattle.tta_sim.specs.Cited.{stated, write_of, first_some, store_data, store_frame, takes}
 use Rattle.tta_sim.specs.Places.{HasWritten}
 use Rattle.tta_sim.specs.Results.{results_at, shown_by}
 use Rattle.tta_sim.specs.Moves.{brought_of}

@@ -2,8 +2,7 @@ use Rattle.std.proofs.Common.{◌≡◌, ◌+◌, ◌<◌, ℕ, false, length, m
 use Rattle.std.specs.Prelude.{is_some, option_map}
 use Rattle.std.specs.Option.{unwrap_or}
 use Rattle.std.specs.List.{list_any, filter_map, AllByRecursion}
-use Rattle.tta_ops.specs.Set.{stated}
-use Rattle.tta_arch.specs.Effects.{write_of, first_some}
+use Rattle.tta_sim.specs.Cited.{stated, write_of, first_some}
 use Rattle.tta_sim.specs.Places.{HasWritten}
 use Rattle.tta_sim.specs.Results.{results_at, shown_by}
 use Rattle.tta_sim.specs.Moves.{brought_of}

@@ -1,5 +1,5 @@
 use Rattle.std.proofs.Common.{◌≡◌, drop}
-use Rattle.tta_arch.specs.Effects.{first_some}
+use Rattle.tta_sim.specs.Cited.{first_some}
 use Rattle.tta_sim.specs.Results.{shown_by}
 use Rattle.tta_sim.specs.Lines.{control_brought}
 use Rattle.tta_sim.proofs.control_moves.acting_by.Given as goal

@@ -1,6 +1,6 @@
 use Rattle.std.proofs.Common.{None, Some, option_map, false, ap, sym, ◌∙◌}
 use Rattle.tta_list.proofs.Lists.{item_there, item_past}
-use Rattle.tta_arch.specs.Effects.{KeptImm}
+use Rattle.tta_sim.specs.Cited.{KeptImm}
 use Rattle.tta_sim.specs.declared.decoded.DecodedSource.TheVariants.{Word}
 use Rattle.tta_sim.specs.Places.{number_of}
 use Rattle.tta_sim.specs.Decoded.{long_decoded}

@@ -1,5 +1,5 @@
 use Rattle.std.proofs.Common.{sym, ◌∙◌, arith}
-use Rattle.tta_ops.specs.Set.{stated}
+use Rattle.tta_sim.specs.Cited.{stated}
 use Rattle.tta_sim.specs.Results.{shown_by}
 use Rattle.tta_sim.specs.Lines.{cannot_start, operand_in, start_brought}
 use Rattle.tta_sim.specs.Dues.{shown_from}

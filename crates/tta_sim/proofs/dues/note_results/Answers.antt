@@ -1,6 +1,6 @@
 use Rattle.std.proofs.Common.{◌++◌, ap, ◌∙◌, arith}
 use Rattle.std.specs.Prelude.{option_to_list}
-use Rattle.tta_ops.specs.Set.{stated}
+use Rattle.tta_sim.specs.Cited.{stated}
 use Rattle.tta_sim.specs.Dues.{shown_from}
 use Rattle.tta_sim.proofs.Lists.{filter_map-more, length-so_far}
 use Rattle.tta_sim.proofs.dues.note_results.Goals as goal

@@ -1,6 +1,6 @@
 use Rattle.std.proofs.Common.{◌≡◌, take}
 use Rattle.std.specs.List.{filter_map}
-use Rattle.tta_ops.specs.Set.{stated}
+use Rattle.tta_sim.specs.Cited.{stated}
 use Rattle.tta_sim.specs.Dues.{shown_from}
 use Rattle.tta_sim.proofs.dues.note_results.Given as goal
 

@@ -1,8 +1,7 @@
 use Rattle.std.proofs.Common.{◌≡◌, ℕ, Option, Some, None, refl, sym, ap, ◌∙◌}
 use Rattle.std.specs.Prelude.{if◌then◌else◌}
 use Rattle.std.specs.Option.{option_map_or, unwrap_or}
-use Rattle.tta_ops.specs.Set.{stated}
-use Rattle.tta_arch.specs.Effects.{Start, has_result, operand_word, result_word}
+use Rattle.tta_sim.specs.Cited.{stated, Start, has_result, operand_word, result_word}
 use Rattle.tta_sim.specs.Dues.{due_with}
 use Rattle.tta_sim.proofs.dues.result_of.Goals as goal
 

@@ -1,7 +1,7 @@
 use Rattle.std.proofs.Common.{◌≡◌, Bool, true, false, refl, sym, ap, ◌∙◌}
 use Rattle.std.specs.Prelude.{◌&&◌}
 use Rattle.std.specs.List.{filter_map, list_any}
-use Rattle.tta_ops.specs.Set.{stated}
+use Rattle.tta_sim.specs.Cited.{stated}
 use Rattle.tta_sim.specs.Results.{shown_by}
 use Rattle.tta_sim.specs.Starts.{clashes_with}
 use Rattle.tta_sim.specs.Lines.{write_brought, operand_in}

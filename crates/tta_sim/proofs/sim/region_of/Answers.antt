@@ -1,5 +1,5 @@
 use Rattle.std.proofs.Common.{length, replicate, ap, ◌∙◌, subst}
-use Rattle.tta_arch.specs.Rules.{IsMachine}
+use Rattle.tta_sim.specs.Cited.{IsMachine}
 use Rattle.tta_sim.proofs.Owning.{own_size, has_room, has_none}
 use Rattle.tta_sim.proofs.sim.region_of.Goals as goal
 

@@ -1,6 +1,6 @@
 use Rattle.std.proofs.Common.{◌≡◌, drop}
 use Rattle.std.specs.Prelude.{fold}
-use Rattle.tta_arch.specs.Effects.{store_data, store_frame}
+use Rattle.tta_sim.specs.Cited.{store_data, store_frame}
 use Rattle.tta_sim.proofs.spaces.store_all.Given as goal
 
 abbrev pub invariant-loop-start : goal.invariant-loop-start

@@ -1,6 +1,6 @@
 use Rattle.std.proofs.Common.{◌≡◌, drop}
 use Rattle.std.specs.List.{list_any}
-use Rattle.tta_arch.specs.Effects.{takes}
+use Rattle.tta_sim.specs.Cited.{takes}
 use Rattle.tta_sim.proofs.starts.any_takes.Given as goal
 
 abbrev pub invariant-loop-start : goal.invariant-loop-start

@@ -1,5 +1,5 @@
 use Rattle.std.proofs.Common.{◌≡◌, ◌≤◌, ◌++◌, drop, length}
-use Rattle.tta_arch.specs.Effects.{Written}
+use Rattle.tta_sim.specs.Cited.{Written}
 use Rattle.tta_sim.specs.Places.{HasWritten}
 use Rattle.tta_sim.specs.Writing.{numbered, ArePlaces}
 use Rattle.tta_sim.proofs.writing.write_all.Given as goal

@@ -1,6 +1,6 @@
 use Rattle.std.proofs.Common.{refl, ◌∙◌, ap, inl, inr, arith}
 use Rattle.std.specs.Prelude.{◌==◌, ◌&&◌, ◌||◌}
-use Rattle.tta_flow.specs.Table.{is_listed}
+use Rattle.tta_stages.specs.Cited.{is_listed}
 use Rattle.tta_alloc.proofs.StepLemmas.{range_none, range_more, range_end}
 use Rattle.tta_stages.proofs.intervals.add_steps.Goals as goal
 

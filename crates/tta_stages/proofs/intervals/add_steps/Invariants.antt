@@ -1,6 +1,6 @@
 use Rattle.std.proofs.Common.{◌≡◌, ℕ, ◌+◌, ◌<◌, ◌≤◌, ◌⊎◌, length}
 use Rattle.std.specs.Prelude.{◌==◌, ◌&&◌, ◌||◌, nat_le, nat_lt}
-use Rattle.tta_flow.specs.Table.{is_listed}
+use Rattle.tta_stages.specs.Cited.{is_listed}
 use Rattle.tta_stages.proofs.intervals.add_steps.Given as goal
 
 abbrev pub invariant-loop-at : goal.invariant-loop-at

@@ -1,7 +1,5 @@
 use Rattle.std.proofs.Common.{List, ◌∙◌, ap}
-use Rattle.tta_flow.specs.declared.flow.Block.{Block}
-use Rattle.tta_lower.specs.Known.{first_by}
-use Rattle.tta_lower.specs.Lower.{parts}
+use Rattle.tta_stages.specs.Cited.{Block, first_by, parts}
 use Rattle.tta_stages.proofs.lowered.parts_of.Goals as goal
 
 pub returns : goal.returns

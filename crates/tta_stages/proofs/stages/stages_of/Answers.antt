@@ -1,6 +1,5 @@
 use Rattle.std.proofs.Common.{sym, subst}
-use Rattle.tta_ops.specs.Set.{stated}
-use Rattle.tta_build.specs.Parts.{IsCodeFor}
+use Rattle.tta_stages.specs.Cited.{stated, IsCodeFor}
 use Rattle.tta_stages.specs.declared.stages.Stages.{Stages}
 use Rattle.tta_stages.proofs.stages.stages_of.Goals as goal
 

@@ -1,6 +1,5 @@
 use Rattle.std.proofs.Common.{◌≡◌, ◌+◌, ◌++◌, drop}
-use Rattle.tta_link.specs.Linked.{starts_from}
-use Rattle.tta_link.specs.Blocks.{total_length}
+use Rattle.tta_stages.specs.Cited.{starts_from, total_length}
 use Rattle.tta_stages.proofs.starts.block_starts.Given as goal
 
 abbrev pub invariant-loop-p : goal.invariant-loop-p

@@ -1,8 +1,7 @@
 -- Numbers that fall along all calls of a procedure, and never rise along others, do not lead back to it.
 use Rattle.std.proofs.Common.{◌<◌, ◌-◌, List, nat_le, get_or, sym, ap, arith, ◌∙◌}
 use Rattle.std.specs.List.{list_all}
-use Rattle.tta_program.specs.declared.step.Step.{Step}
-use Rattle.tta_program.specs.declared.program.Proc.{Proc}
+use Rattle.tta_tac.specs.Cited.{Step, Proc}
 use Rattle.tta_tac.specs.Cycles.{passes}
 use Rattle.tta_tac.proofs.CallLemmas.{not_back}
 use Rattle.tta_tac.proofs.cycles.falls.Goals as goal

@@ -1,5 +1,5 @@
 use Rattle.std.proofs.Common.{ℕ, ◌<◌}
-use Rattle.tta_program.specs.Rules.{Reaches}
+use Rattle.tta_tac.specs.Cited.{Reaches}
 use Rattle.tta_tac.specs.Text.{with_main}
 use Rattle.tta_tac.proofs.cycles.first_back.Given as goal
 

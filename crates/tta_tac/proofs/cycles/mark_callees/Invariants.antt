@@ -1,7 +1,7 @@
 use Rattle.std.proofs.Common.{◌≡◌, length, take}
 use Rattle.std.specs.List.{list_any}
 use Rattle.tta_tac.specs.Cycles.{IsMarked, Finds}
-use Rattle.tta_program.specs.Rules.{calls_proc}
+use Rattle.tta_tac.specs.Cited.{calls_proc}
 use Rattle.tta_tac.proofs.cycles.mark_callees.Given as goal
 
 abbrev pub invariant-loop-step : goal.invariant-loop-step

@@ -1,7 +1,7 @@
 -- Each stage reports what it found, or hands on what holds.
 use Rattle.std.proofs.Common.{sym, ◌∙◌, ap, subst, length}
 use Rattle.tta_tac.specs.Cycles.{IsAcyclic}
-use Rattle.tta_program.specs.Rules.{IsProgram}
+use Rattle.tta_tac.specs.Cited.{IsProgram}
 use Rattle.tta_tac.specs.Reported.{LeadsBack, MakesProgram}
 use Rattle.tta_tac.specs.Draft.{draft_seen, procs_seen}
 use Rattle.tta_tac.proofs.Finished.{linked_length, reported_in_passes, told_by_recursion, told_without_main, made_program}

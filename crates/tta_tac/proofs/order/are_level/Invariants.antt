@@ -1,6 +1,6 @@
 use Rattle.std.proofs.Common.{◌≡◌, ℕ, ◌<◌, true, nat_le, get_or}
 use Rattle.std.specs.List.{list_all}
-use Rattle.tta_program.specs.declared.program.Proc.{Proc}
+use Rattle.tta_tac.specs.Cited.{Proc}
 use Rattle.tta_tac.specs.Cycles.{passes}
 use Rattle.tta_tac.proofs.order.are_level.Given as goal
 

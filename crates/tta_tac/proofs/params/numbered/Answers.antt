@@ -1,5 +1,5 @@
 use Rattle.std.proofs.Common.{ℕ, ◌∙◌, ap, refl, length, arith}
-use Rattle.tta_reading.specs.Lines.{texts}
+use Rattle.tta_tac.specs.Cited.{texts}
 use Rattle.tta_tac.proofs.params.numbered.Goals as goal
 use Rattle.tta_tac.proofs.Twice.{is_twice_none, is_twice_step, is_twice_fresh, numbered_step}
 

@@ -1,5 +1,5 @@
 use Rattle.std.proofs.Common.{◌≡◌, ◌++◌, false, length, drop}
-use Rattle.tta_reading.specs.Lines.{texts}
+use Rattle.tta_tac.specs.Cited.{texts}
 use Rattle.tta_tac.specs.FirstPass.{numbered}
 use Rattle.tta_tac.proofs.Twice.{is_twice_after}
 use Rattle.tta_tac.proofs.params.numbered.Given as goal

@@ -1,5 +1,5 @@
 use Rattle.std.proofs.Common.{◌∙◌}
-use Rattle.tta_reading.specs.Lines.{texts}
+use Rattle.tta_tac.specs.Cited.{texts}
 use Rattle.tta_tac.proofs.params.sees_twice.Goals as goal
 use Rattle.tta_tac.proofs.Twice.{is_twice_none, is_twice_step}
 

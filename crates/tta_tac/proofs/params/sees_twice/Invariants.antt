@@ -1,5 +1,5 @@
 use Rattle.std.proofs.Common.{◌≡◌, drop}
-use Rattle.tta_reading.specs.Lines.{texts}
+use Rattle.tta_tac.specs.Cited.{texts}
 use Rattle.tta_tac.specs.FirstPass.{has_twice}
 use Rattle.tta_tac.proofs.Twice.{is_twice_after}
 use Rattle.tta_tac.proofs.params.sees_twice.Given as goal

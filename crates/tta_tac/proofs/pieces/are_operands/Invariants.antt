@@ -1,6 +1,6 @@
 use Rattle.std.proofs.Common.{◌≡◌, true, is_some, take}
 use Rattle.std.specs.List.{list_all}
-use Rattle.tta_reading.specs.Lines.{plain}
+use Rattle.tta_tac.specs.Cited.{plain}
 use Rattle.tta_tac.specs.Forms.{operand_of}
 use Rattle.tta_tac.proofs.pieces.are_operands.Given as goal
 

@@ -1,6 +1,5 @@
 use Rattle.std.proofs.Common.{◌≡◌, ◌≤◌, ◌+◌, ◌^◌, length}
-use Rattle.tta_reading.specs.Lines.{lines_of}
-use Rattle.tta_ops.specs.Set.{stated}
+use Rattle.tta_tac.specs.Cited.{lines_of, stated}
 use Rattle.tta_tac.specs.Draft.{nothing, draft_seen}
 use Rattle.tta_tac.specs.DraftRules.{IsDraft}
 use Rattle.tta_tac.specs.Text.{take_lines}

@@ -1,4 +1,4 @@
-use Rattle.tta_ops.specs.Set.{stated}
+use Rattle.tta_tac.specs.Cited.{stated}
 use Rattle.tta_tac.proofs.Described.{read_said}
 use Rattle.tta_tac.proofs.Over.{read_over}
 use Rattle.tta_tac.proofs.read.read_program.Goals as goal

@@ -1,6 +1,6 @@
 use Rattle.std.proofs.Common.{Some, length, refl, ap, ◌∙◌, arith}
 use Rattle.std.proofs.lemmas.List.{length-map}
-use Rattle.tta_program.specs.declared.program.Proc.{Proc}
+use Rattle.tta_tacrun.specs.Cited.{Proc}
 use Rattle.tta_tacrun.proofs.Calling.{met, size_at}
 use Rattle.tta_tacrun.proofs.carry.carry_any.Goals as goal
 

@@ -1,7 +1,7 @@
 use Rattle.std.proofs.Common.{◌≡◌, slice_get, Some, true, ap, sym, ◌∙◌, subst}
 use Rattle.std.specs.List.{list_all}
 use Rattle.std.proofs.lemmas.Option.{slice_get-get_or}
-use Rattle.tta_program.specs.Program.{Program}
+use Rattle.tta_tacrun.specs.Cited.{Program}
 use Rattle.tta_tacrun.specs.Flat.{has_variables}
 use Rattle.tta_tacrun.proofs.Rules.{proc_variables}
 use Rattle.tta_tacrun.proofs.code.flat_code.Goals as goal

@@ -1,10 +1,8 @@
 use Rattle.std.proofs.Common.{◌≡◌, ◌+◌, ◌-◌, [], suc, length, is_some, refl, sym, ap, ◌∙◌, subst, arith, true}
 use Rattle.std.specs.Prelude.{IfSome}
-use Rattle.tta_list.specs.Iterate.{iterate}
+use Rattle.tta_tacrun.specs.Cited.{iterate, stated, next}
 use Rattle.tta_list.proofs.Lists.{list_all_one}
 use Rattle.tta_list.proofs.Tests.{none_from_is_some}
-use Rattle.tta_ops.specs.Set.{stated}
-use Rattle.tta_program.specs.Sequential.{next}
 use Rattle.tta_tacrun.specs.Flat.{has_cells, said}
 use Rattle.tta_tacrun.specs.Run.{going, quiet_at, GoesTo}
 use Rattle.tta_tacrun.proofs.Coded.{mapped_at}

@@ -1,7 +1,5 @@
 use Rattle.std.proofs.Common.{◌≡◌, ℕ, List, ◌+◌, ◌-◌, ◌≤◌, length, is_some, true}
-use Rattle.tta_ops.specs.Set.{stated}
-use Rattle.tta_list.specs.Iterate.{iterate}
-use Rattle.tta_program.specs.Sequential.{Frame, next, step_at}
+use Rattle.tta_tacrun.specs.Cited.{stated, iterate, Frame, next, step_at}
 use Rattle.tta_tacrun.specs.Run.{going}
 use Rattle.tta_tacrun.proofs.quiet.go_on.Given as goal
 

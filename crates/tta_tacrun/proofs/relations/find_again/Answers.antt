@@ -1,6 +1,6 @@
 use Rattle.std.proofs.Common.{Some, ap, sym, ◌∙◌}
 use Rattle.std.proofs.lemmas.Slice.Eq.{bytes_eq-Decides}
-use Rattle.tta_ops.specs.Set.{stated}
+use Rattle.tta_tacrun.specs.Cited.{stated}
 use Rattle.tta_ops.proofs.Named.{get_named}
 use Rattle.tta_tacrun.proofs.relations.find_again.Goals as goal
 

@@ -1,6 +1,4 @@
-use Rattle.tta_ops.specs.Set.{stated}
-use Rattle.tta_given.specs.Held.{no_memory}
-use Rattle.tta_given.specs.Assemblies.{IsAssemblyFor, RefusesAssembly}
+use Rattle.tta_tool.specs.Cited.{stated, no_memory, IsAssemblyFor, RefusesAssembly}
 use Rattle.tta_tool.specs.Asm.{IsAssembled}
 use Rattle.tta_given.proofs.Endings.{writes}
 use Rattle.tta_tool.proofs.asm.assemble_image.Goals as goal

@@ -1,4 +1,4 @@
-use Rattle.tta_ops.specs.Set.{stated}
+use Rattle.tta_tool.specs.Cited.{stated}
 use Rattle.tta_tool.proofs.Building.{whole_image}
 use Rattle.tta_tool.proofs.build.image_of_pair.Goals as goal
 

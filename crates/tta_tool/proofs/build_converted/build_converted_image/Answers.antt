@@ -1,5 +1,4 @@
-use Rattle.tta_ops.specs.Set.{stated}
-use Rattle.tta_given.specs.Programs.{IsProgramFor, RefusesProgramFor}
+use Rattle.tta_tool.specs.Cited.{stated, IsProgramFor, RefusesProgramFor}
 use Rattle.tta_tool.specs.BuildConverted.{IsConvertedImageOf, IsConvertedCauseOf}
 use Rattle.tta_given.proofs.Endings.{writes}
 use Rattle.tta_tool.proofs.build_converted.build_converted_image.Goals as goal

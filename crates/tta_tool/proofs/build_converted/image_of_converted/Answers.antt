@@ -1,4 +1,4 @@
-use Rattle.tta_ops.specs.Set.{stated}
+use Rattle.tta_tool.specs.Cited.{stated}
 use Rattle.tta_tool.proofs.Convertings.{converted_image}
 use Rattle.tta_tool.proofs.build_converted.image_of_converted.Goals as goal
 

@@ -1,6 +1,5 @@
 use Rattle.std.proofs.Common.{ℕ, List, IfOk, ap, ◌∙◌, length, subst}
-use Rattle.tta_list.specs.Laid.{over}
-use Rattle.tta_code.specs.Whole.{laid_by, data_in}
+use Rattle.tta_tool.specs.Cited.{over, laid_by, data_in}
 use Rattle.tta_code.specs.Cycle.{start}
 use Rattle.tta_sim.specs.Held.{Stands}
 use Rattle.tta_tool.proofs.code_run.load_code.Goals as goal

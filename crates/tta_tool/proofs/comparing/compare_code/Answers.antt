@@ -1,5 +1,5 @@
 use Rattle.std.proofs.Common.{◌*◌, ◌+◌, subst}
-use Rattle.tta_ops.specs.Set.{stated}
+use Rattle.tta_tool.specs.Cited.{stated}
 use Rattle.tta_tool.specs.Sample.{HasCycled}
 use Rattle.tta_tool.proofs.Samplings.{s, t, stand_alike, compared}
 use Rattle.tta_tool.proofs.comparing.compare_code.Goals as goal

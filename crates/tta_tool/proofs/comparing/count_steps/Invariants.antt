@@ -1,7 +1,6 @@
 use Rattle.std.proofs.Common.{◌≡◌, ◌+◌, length, drop}
 use Rattle.std.specs.List.{sum_by}
-use Rattle.tta_program.specs.declared.program.Proc.{Proc}
-use Rattle.tta_program.specs.Program.{step_count}
+use Rattle.tta_tool.specs.Cited.{Proc, step_count}
 use Rattle.tta_tool.proofs.comparing.count_steps.Given as goal
 
 abbrev pub invariant-procs : goal.invariant-procs

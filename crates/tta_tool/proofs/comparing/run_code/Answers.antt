@@ -1,9 +1,6 @@
 use Rattle.std.proofs.Common.{[], refl, ap, ◌∙◌, subst}
-use Rattle.tta_ops.specs.Set.{stated}
-use Rattle.tta_list.specs.Laid.{over}
-use Rattle.tta_code.specs.Whole.{Whole, data_in}
+use Rattle.tta_tool.specs.Cited.{stated, over, Whole, data_in, Keeps}
 use Rattle.tta_code.specs.Cycle.{start}
-use Rattle.tta_run.specs.Loops.{Keeps}
 use Rattle.tta_sim.specs.Held.{Stands}
 use Rattle.tta_tool.specs.Cycles.{meaning_of}
 use Rattle.tta_tool.specs.Sample.{zeros}

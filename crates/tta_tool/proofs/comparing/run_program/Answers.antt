@@ -1,7 +1,5 @@
 use Rattle.std.proofs.Common.{[], refl, ap}
-use Rattle.tta_ops.specs.Set.{stated}
-use Rattle.tta_list.specs.Laid.{over}
-use Rattle.tta_program.specs.Program.{data_of}
+use Rattle.tta_tool.specs.Cited.{stated, over, data_of}
 use Rattle.tta_program.specs.Sequential.{start}
 use Rattle.tta_tool.proofs.Laying.{few_steps}
 use Rattle.tta_tool.proofs.Samplings.{has_run}

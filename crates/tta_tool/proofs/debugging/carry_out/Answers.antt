@@ -1,12 +1,8 @@
 use Rattle.std.proofs.Common.{◌<◌, ◌^◌, [], refl, sym, subst, ap}
-use Rattle.tta_given.specs.declared.pair.CodePair.{CodePair}
-use Rattle.tta_list.specs.Laid.{over}
-use Rattle.tta_code.specs.Whole.{Whole, data_in}
+use Rattle.tta_tool.specs.Cited.{CodePair, over, Whole, data_in, stated, Session'}
 use Rattle.tta_code.specs.Cycle.{start}
-use Rattle.tta_ops.specs.Set.{stated}
 use Rattle.tta_debug.specs.Debugged.{session as replies_of}
 use Rattle.tta_debug.specs.Scripts.{lines_of}
-use Rattle.tta_debug.specs.Sessions.{Session'}
 use Rattle.tta_tool.specs.Debug.{at_first, SessionEnds}
 use Rattle.tta_tool.proofs.Laying.{first_cycle}
 use Rattle.tta_tool.proofs.debugging.carry_out.Goals as goal

@@ -1,5 +1,5 @@
 use Rattle.std.proofs.Common.{ℕ, option_map, subst}
-use Rattle.tta_ops.specs.Set.{stated}
+use Rattle.tta_tool.specs.Cited.{stated}
 use Rattle.tta_tool.specs.Debug.{ReadsAsked}
 use Rattle.tta_tool.proofs.Debuggings.{asked_runs}
 use Rattle.tta_tool.proofs.debugging.debug_pair.Goals as goal

@@ -1,9 +1,8 @@
 use Rattle.std.proofs.Common.{ℕ, List, sym, subst}
-use Rattle.tta_ops.specs.Set.{stated}
+use Rattle.tta_tool.specs.Cited.{stated, Debugged, Follows}
 use Rattle.tta_sim.specs.Held.{Held}
-use Rattle.tta_debug.specs.Debugged.{Debugged, session as replies_of}
+use Rattle.tta_debug.specs.Debugged.{session as replies_of}
 use Rattle.tta_debug.specs.Scripts.{lines_of}
-use Rattle.tta_debug.specs.Sessions.{Follows}
 use Rattle.tta_given.specs.declared.status.Status.TheVariants as status
 use Rattle.tta_tool.specs.Debug.{EndsAs, SessionEnds}
 use Rattle.tta_tool.proofs.Debuggings.{script_done}

@@ -1,6 +1,4 @@
-use Rattle.tta_ops.specs.Set.{stated}
-use Rattle.tta_given.specs.Held.{no_memory}
-use Rattle.tta_given.specs.Images.{IsImageFor, RefusesImage}
+use Rattle.tta_tool.specs.Cited.{stated, no_memory, IsImageFor, RefusesImage}
 use Rattle.tta_tool.specs.Dis.{IsShown}
 use Rattle.tta_given.proofs.Endings.{writes}
 use Rattle.tta_tool.proofs.dis.show_image.Goals as goal

@@ -1,8 +1,6 @@
 use Rattle.std.proofs.Common.{◌<◌, ◌^◌, List, [], ℕ, refl, sym, subst}
-use Rattle.tta_list.specs.Laid.{over}
-use Rattle.tta_program.specs.Program.{data_of}
+use Rattle.tta_tool.specs.Cited.{over, data_of, stated}
 use Rattle.tta_program.specs.Sequential.{start}
-use Rattle.tta_ops.specs.Set.{stated}
 use Rattle.tta_tool.specs.Exec.{Reports}
 use Rattle.tta_tool.proofs.Laying.{few_steps, short_memory}
 use Rattle.tta_tool.proofs.exec.carry_out.Goals as goal

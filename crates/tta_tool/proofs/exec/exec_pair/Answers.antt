@@ -1,6 +1,5 @@
 use Rattle.std.proofs.Common.{ℕ, option_map, subst}
-use Rattle.tta_given.specs.Inputs.{ReadsGiven}
-use Rattle.tta_ops.specs.Set.{stated}
+use Rattle.tta_tool.specs.Cited.{ReadsGiven, stated}
 use Rattle.tta_tool.specs.Exec.{Reports}
 use Rattle.tta_given.proofs.RunEndings.{given_runs}
 use Rattle.tta_tool.proofs.exec.exec_pair.Goals as goal

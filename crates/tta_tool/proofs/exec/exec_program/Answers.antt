@@ -1,6 +1,5 @@
 use Rattle.std.proofs.Common.{option_map}
-use Rattle.tta_ops.specs.Set.{stated}
-use Rattle.tta_given.specs.Programs.{IsProgramFor, RefusesProgramFor}
+use Rattle.tta_tool.specs.Cited.{stated, IsProgramFor, RefusesProgramFor}
 use Rattle.tta_tool.specs.Exec.{Reports}
 use Rattle.tta_given.proofs.RunEndings.{pair_runs}
 use Rattle.tta_tool.proofs.exec.exec_program.Goals as goal

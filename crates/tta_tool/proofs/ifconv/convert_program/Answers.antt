@@ -1,5 +1,5 @@
 use Rattle.std.proofs.Common.{inl}
-use Rattle.tta_ops.specs.Set.{stated}
+use Rattle.tta_tool.specs.Cited.{stated}
 use Rattle.tta_tool.proofs.Convertings.{writes_converted}
 use Rattle.tta_tool.proofs.ifconv.convert_program.Goals as goal
 

@@ -1,4 +1,4 @@
-use Rattle.tta_ops.specs.Set.{stated}
+use Rattle.tta_tool.specs.Cited.{stated}
 use Rattle.tta_ifconv.proofs.Unique.{stands_over}
 use Rattle.tta_tool.proofs.Convertings.{converted_text}
 use Rattle.tta_tool.proofs.ifconv.converted_text.Goals as goal

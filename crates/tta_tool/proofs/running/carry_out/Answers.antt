@@ -1,9 +1,6 @@
 use Rattle.std.proofs.Common.{ℕ, List, [], refl, subst, ap}
-use Rattle.tta_given.specs.declared.pair.CodePair.{CodePair}
-use Rattle.tta_list.specs.Laid.{over}
-use Rattle.tta_code.specs.Whole.{Whole, data_in}
-use Rattle.tta_code.specs.Cycle.{start, cyc}
-use Rattle.tta_ops.specs.Set.{stated}
+use Rattle.tta_tool.specs.Cited.{CodePair, over, Whole, data_in, cyc, stated}
+use Rattle.tta_code.specs.Cycle.{start}
 use Rattle.tta_tool.specs.Cycles.{ended_of, run_text}
 use Rattle.tta_tool.specs.Runs.{ReportEnds}
 use Rattle.tta_tool.proofs.Laying.{few_cycles}

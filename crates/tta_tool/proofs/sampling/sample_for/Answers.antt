@@ -1,7 +1,5 @@
 use Rattle.std.proofs.Common.{ℕ, ◌*◌, ◌+◌, inr, subst}
-use Rattle.tta_ops.specs.Set.{stated}
-use Rattle.tta_sample.specs.Sample.{sample_text}
-use Rattle.tta_given.specs.Programs.{IsProgramIn}
+use Rattle.tta_tool.specs.Cited.{stated, sample_text, IsProgramIn}
 use Rattle.tta_tool.specs.Sample.{CompileEnds}
 use Rattle.tta_tool.proofs.sampling.sample_for.Goals as goal
 

@@ -2,16 +2,7 @@ use Rattle.std.proofs.Common.{◌≡◌, ◌+◌, Bool, List, [], ◌++◌, IsTr
 use Rattle.std.specs.Prelude.{IfSome, None, if◌then◌else◌, is_some, map}
 use Rattle.std.specs.List.{AllByRecursion}
 use Rattle.std.specs.Option.{option_copied, option_map_or}
-use Rattle.tta_ops.specs.Set.{stated}
-use Rattle.tta_arch.specs.Rules.{IsMachine}
-use Rattle.tta_code.specs.declared.code.Instruction.{Instruction}
-use Rattle.tta_code.specs.Cycle.{State}
-use Rattle.tta_sim.specs.Held.{is_halted}
-use Rattle.tta_sim.specs.Places.{HasWritten}
-use Rattle.tta_profile.specs.Feed.{went_on}
-use Rattle.tta_places.specs.Carried.{carried, coming, slots_of}
-use Rattle.tta_places.specs.Written.{is_slot_written_to}
-use Rattle.tta_places.specs.Writes.{writes_in}
+use Rattle.tta_waves.specs.Cited.{stated, IsMachine, Instruction, is_halted, HasWritten, went_on, carried, coming, slots_of, is_slot_written_to, writes_in}
 use Rattle.tta_waves.proofs.Going.{goes}
 use Rattle.tta_places.proofs.Slots.{of_made, written_next}
 use Rattle.tta_waves.proofs.cycling.cycle_once.Goals as goal

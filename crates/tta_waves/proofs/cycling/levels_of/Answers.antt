@@ -1,11 +1,8 @@
 use Rattle.std.proofs.Common.{◌≡◌, ℕ, List, ◌++◌, length, IsTrue, sym, ap, ◌∙◌, subst}
 use Rattle.std.specs.Prelude.{map}
 use Rattle.std.specs.List.{AllByRecursion}
-use Rattle.tta_arch.specs.Machine.{Machine}
-use Rattle.tta_arch.specs.Rules.{IsMachine}
-use Rattle.tta_sim.specs.Held.{is_halted}
+use Rattle.tta_waves.specs.Cited.{Machine, IsMachine, is_halted, carried, slots_of}
 use Rattle.tta_waves.specs.declared.signal.Signal.{Signal}
-use Rattle.tta_places.specs.Carried.{carried, slots_of}
 use Rattle.tta_waves.specs.Levels.{level_in}
 use Rattle.tta_waves.specs.Told.{is_told}
 use Rattle.tta_places.proofs.Slots.{possible_slots}

@@ -1,10 +1,7 @@
 use Rattle.std.proofs.Common.{◌≡◌, ℕ, suc, ◌-◌, ◌++◌, List, sym, ap, ◌∙◌, subst, arith}
 use Rattle.std.specs.Prelude.{slice_get}
 use Rattle.tta_list.specs.Input.{left as unread}
-use Rattle.tta_ops.specs.Set.{stated}
-use Rattle.tta_code.specs.Cycle.{State, Running, next}
-use Rattle.tta_sim.specs.Held.{Stands}
-use Rattle.tta_sim.specs.Places.{HasWritten}
+use Rattle.tta_waves.specs.Cited.{stated, State, Running, next, Stands, HasWritten}
 use Rattle.tta_waves.specs.declared.level.Level.{Level}
 use Rattle.tta_waves.specs.Dump.{last_text}
 use Rattle.tta_waves.specs.Levels.{levels_in}

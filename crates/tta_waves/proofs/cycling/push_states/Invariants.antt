@@ -1,8 +1,5 @@
 use Rattle.std.proofs.Common.{◌≡◌, ◌+◌, ◌<◌, ◌^◌, ◌++◌}
-use Rattle.tta_ops.specs.Set.{stated}
-use Rattle.tta_code.specs.Cycle.{State, next}
-use Rattle.tta_sim.specs.Held.{Stands, IsRunOf}
-use Rattle.tta_sim.specs.Places.{HasWritten}
+use Rattle.tta_waves.specs.Cited.{stated, State, next, Stands, IsRunOf, HasWritten}
 use Rattle.tta_waves.specs.Dump.{states_text}
 use Rattle.tta_waves.specs.Levels.{levels_in}
 use Rattle.tta_waves.specs.Signals.{signals_of}

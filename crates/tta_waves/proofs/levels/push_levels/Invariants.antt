@@ -1,9 +1,6 @@
 use Rattle.std.proofs.Common.{◌≡◌, ◌++◌, drop}
 use Rattle.std.specs.Prelude.{map}
-use Rattle.tta_code.specs.Cycle.{State}
-use Rattle.tta_sim.specs.Held.{Stands}
-use Rattle.tta_sim.specs.Places.{HasWritten}
-use Rattle.tta_places.specs.Carried.{carried}
+use Rattle.tta_waves.specs.Cited.{State, Stands, HasWritten, carried}
 use Rattle.tta_waves.specs.Levels.{level_in}
 use Rattle.tta_waves.proofs.levels.push_levels.Given as goal
 

@@ -1,7 +1,6 @@
 use Rattle.std.proofs.Common.{◌≡◌, drop}
 use Rattle.std.specs.List.{list_any}
-use Rattle.tta_code.specs.Cycle.{State}
-use Rattle.tta_sim.specs.Places.{HasWritten}
+use Rattle.tta_waves.specs.Cited.{State, HasWritten}
 use Rattle.tta_waves.specs.Levels.{starts}
 use Rattle.tta_waves.proofs.moment.is_started.Given as goal
 

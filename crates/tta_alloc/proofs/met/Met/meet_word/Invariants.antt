@@ -1,6 +1,6 @@
 use Rattle.std.proofs.Common.{◌*◌, ◌+◌, ◌≤◌}
 use Rattle.std.specs.Prelude.{◌&&◌}
-use Rattle.tta_flow.specs.Bits.{has}
+use Rattle.tta_alloc.specs.Cited.{has}
 use Rattle.tta_alloc.specs.Meetings.{Meets, within}
 use Rattle.tta_alloc.proofs.met.Met.meet_word.Given as goal
 

@@ -1,5 +1,5 @@
 use Rattle.std.proofs.Common.{refl, ap}
-use Rattle.tta_arch.specs.Machine.{Machine}
+use Rattle.tta_asm.specs.Cited.{Machine}
 use Rattle.tta_asm.proofs.resolving.sources.return_address.Goals as goal
 
 pub returns-then-is_some : goal.returns-then-is_some

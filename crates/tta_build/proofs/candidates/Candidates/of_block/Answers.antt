@@ -2,7 +2,7 @@ use Rattle.std.proofs.Common.{◌≡◌, sym, subst}
 use Rattle.std.specs.Prelude.{Vec}
 use Rattle.std.specs.Global.{Global}
 use Rattle.std.proofs.lemmas.Result.{IfOk-at_ok}
-use Rattle.tta_compose.specs.Compiler.{optimised}
+use Rattle.tta_build.specs.Cited.{optimised}
 use Rattle.tta_build.specs.declared.trail.Trail.{Trail}
 use Rattle.tta_build.specs.Trail.{IsTrail, AreTrailsOf, last_of}
 use Rattle.tta_build.proofs.candidates.Candidates.of_block.Goals as goal

@@ -1,7 +1,6 @@
 use Rattle.std.proofs.Common.{Option, subst}
 use Rattle.std.specs.Prelude.{IfSome}
-use Rattle.tta_moves.specs.declared.items.BlockList.{BlockList}
-use Rattle.tta_optim.specs.Kept.{IsStandIn}
+use Rattle.tta_build.specs.Cited.{BlockList, IsStandIn}
 use Rattle.tta_build.proofs.Trails.{no_trails}
 use Rattle.tta_build.proofs.candidates.Candidates.others.Goals as goal
 

@@ -1,8 +1,7 @@
 use Rattle.std.proofs.Common.{Option, sym, subst}
 use Rattle.std.specs.Prelude.{IfSome}
 use Rattle.std.proofs.lemmas.Result.{IfOk-at_ok}
-use Rattle.tta_moves.specs.declared.items.BlockList.{BlockList}
-use Rattle.tta_optim.specs.Kept.{IsStandIn}
+use Rattle.tta_build.specs.Cited.{BlockList, IsStandIn}
 use Rattle.tta_build.proofs.rounds.Rounder.grouped.Goals as goal
 
 pub on_units-requires : goal.on_units-requires

@@ -1,7 +1,6 @@
 use Rattle.std.proofs.Common.{◌≡◌, true, Option, sym, subst}
 use Rattle.std.specs.Prelude.{IfSome}
-use Rattle.tta_moves.specs.declared.items.BlockList.{BlockList}
-use Rattle.tta_moves.specs.Slots.{is_list}
+use Rattle.tta_build.specs.Cited.{BlockList, is_list}
 use Rattle.tta_build.specs.declared.trail.Round.{Round}
 use Rattle.tta_build.specs.Trail.{IsRound}
 use Rattle.std.proofs.lemmas.Result.{IfOk-at_ok}

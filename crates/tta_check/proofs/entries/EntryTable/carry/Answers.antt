@@ -1,7 +1,6 @@
 use Rattle.std.proofs.Common.{List, Some, length, refl, ap, sym, subst, ◌∙◌, arith}
 use Rattle.std.specs.Prelude.{slice_get}
-use Rattle.tta_arch.specs.Machine.{Machine}
-use Rattle.tta_code.specs.declared.code.Instruction.{Instruction}
+use Rattle.tta_check.specs.Cited.{Machine, Instruction}
 use Rattle.tta_check.specs.Visits.{Visits}
 use Rattle.tta_check.specs.Tables.{FitsBoth, PutBoth}
 use Rattle.tta_check.specs.Carries.{Empty, Ended, Went}

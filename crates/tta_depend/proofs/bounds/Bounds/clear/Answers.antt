@@ -1,5 +1,5 @@
 use Rattle.std.proofs.Common.{ap, ◌∙◌, refl}
-use Rattle.tta_arch.specs.Machine.{Machine}
+use Rattle.tta_depend.specs.Cited.{Machine}
 use Rattle.tta_depend.proofs.Keeping.{none_placed}
 use Rattle.tta_depend.proofs.bounds.Bounds.clear.Goals as goal
 

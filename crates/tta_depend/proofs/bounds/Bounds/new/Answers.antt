@@ -1,5 +1,5 @@
 use Rattle.std.proofs.Common.{ap, ◌∙◌, refl}
-use Rattle.tta_arch.specs.Machine.{Machine}
+use Rattle.tta_depend.specs.Cited.{Machine}
 use Rattle.tta_depend.specs.Rows.{unused, row_at, current}
 use Rattle.tta_depend.proofs.Change.{replicate_at}
 use Rattle.tta_depend.proofs.Keeping.{none_placed}

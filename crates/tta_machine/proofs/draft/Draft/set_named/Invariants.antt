@@ -1,5 +1,5 @@
 use Rattle.std.proofs.Common.{◌≡◌, Some, option_map, take}
-use Rattle.tta_reading.specs.Lines.{texts}
+use Rattle.tta_machine.specs.Cited.{texts}
 use Rattle.tta_machine.specs.BusSets.{set_once}
 use Rattle.tta_machine.specs.Declarations.{buses_named}
 use Rattle.tta_machine.proofs.draft.Draft.set_named.Given as goal

@@ -2,10 +2,7 @@ use Rattle.std.proofs.Common.{◌≡◌, ◌+◌, ◌≤◌, ◌<◌, ◌==◌, 
 use Rattle.std.specs.Prelude.{slice_get, if◌then◌else◌}
 use Rattle.std.specs.Option.{option_map_or}
 use Rattle.std.proofs.lemmas.Option.{slice_get_read}
-use Rattle.tta_ops.specs.Set.{stated}
-use Rattle.tta_ops.specs.Units.{Units}
-use Rattle.tta_cores.specs.Network.{turn}
-use Rattle.tta_cores.specs.Cluster.{cycles}
+use Rattle.tta_net.specs.Cited.{stated, Units, turn, cycles}
 use Rattle.tta_net.specs.Clusters.{HeldCluster, IsClusterOf, StandsFor, feeds_of, made_by, next_word, told_at}
 use Rattle.tta_net.proofs.Together.{HasTurned, later, still_loaded, still_fed, counts_one, still_stands, still_told}
 use Rattle.tta_net.proofs.cluster.Cluster.turn_loudly.Given as given

@@ -1,7 +1,5 @@
 use Rattle.std.proofs.Common.{◌≡◌, List, true, ap, sym, subst}
-use Rattle.tta_moves.specs.declared.items.Item.{Item}
-use Rattle.tta_moves.specs.declared.items.BlockList.{BlockList}
-use Rattle.tta_moves.specs.Forms.{is_bypassed, is_shared, is_lively}
+use Rattle.tta_optim.specs.Cited.{Item, BlockList, is_bypassed, is_shared, is_lively}
 use Rattle.tta_optim.specs.Kept.{KeepsMeaning, DoesNoMore}
 use Rattle.tta_optim.proofs.Meanings.{optimise_meaning}
 use Rattle.tta_optim.proofs.NoMore.{optimise_no_more, optimise_bypassed, optimise_shared, optimise_lively}

@@ -1,7 +1,6 @@
 use Rattle.std.proofs.Common.{◌≡◌, ℕ, List, [], true, ap, sym, subst, ◌∙◌}
 use Rattle.std.specs.List.{list_all}
-use Rattle.tta_moves.specs.declared.items.Item.{Item}
-use Rattle.tta_moves.specs.Slots.{has_slot}
+use Rattle.tta_optim.specs.Cited.{Item, has_slot}
 use Rattle.tta_optim.specs.Passes.{bypass_items, share_items, dead_items}
 use Rattle.tta_optim.proofs.Slotted.{slotted}
 use Rattle.tta_optim.proofs.NoMore.{bypass_no_more, share_no_more}

@@ -1,8 +1,6 @@
 use Rattle.std.proofs.Common.{ℕ, List, sym, ap, subst, ◌∙◌}
 use Rattle.std.specs.List.{list_all}
-use Rattle.tta_arch.specs.Effects.{KeptReg}
-use Rattle.tta_moves.specs.declared.items.Item.{Item}
-use Rattle.tta_moves.specs.Numbers.{is_place}
+use Rattle.tta_order.specs.Cited.{KeptReg, Item, is_place}
 use Rattle.tta_order.specs.Orders.{bare, picked}
 use Rattle.tta_order.specs.Slots.{AreParts}
 use Rattle.tta_order.specs.Rows.{none_changed, rows_from, table_after, table_by, same_ends, same_parts}

@@ -1,5 +1,5 @@
 use Rattle.std.proofs.Common.{◌+◌, ◌*◌, sym, ap, ◌∙◌}
-use Rattle.tta_arch.specs.Effects.{KeptImm}
+use Rattle.tta_places.specs.Cited.{KeptImm}
 use Rattle.tta_places.proofs.row.Row.set_immediate.Goals as goal
 
 pub returns : goal.returns

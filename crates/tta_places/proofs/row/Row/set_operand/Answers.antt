@@ -1,5 +1,5 @@
 use Rattle.std.proofs.Common.{◌+◌, sym, ap}
-use Rattle.tta_arch.specs.Effects.{KeptOperand}
+use Rattle.tta_places.specs.Cited.{KeptOperand}
 use Rattle.tta_places.proofs.row.Row.set_operand.Goals as goal
 
 pub returns : goal.returns

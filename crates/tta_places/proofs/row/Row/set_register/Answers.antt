@@ -1,5 +1,5 @@
 use Rattle.std.proofs.Common.{◌+◌, ◌*◌, sym, ap, ◌∙◌}
-use Rattle.tta_arch.specs.Effects.{KeptReg}
+use Rattle.tta_places.specs.Cited.{KeptReg}
 use Rattle.tta_places.proofs.row.Row.set_register.Goals as goal
 
 pub returns : goal.returns

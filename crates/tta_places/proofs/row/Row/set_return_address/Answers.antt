@@ -1,5 +1,5 @@
 use Rattle.std.proofs.Common.{refl}
-use Rattle.tta_arch.specs.Effects.{KeptRa}
+use Rattle.tta_places.specs.Cited.{KeptRa}
 use Rattle.tta_places.proofs.row.Row.set_return_address.Goals as goal
 
 pub returns : goal.returns

@@ -1,5 +1,5 @@
 use Rattle.std.proofs.Common.{◌≡◌, List, true}
-use Rattle.tta_moves.specs.declared.items.Item.{Item}
+use Rattle.tta_reload.specs.Cited.{Item}
 use Rattle.tta_reload.specs.declared.facts.Fact.{Fact}
 use Rattle.tta_reload.specs.Known.{known, by_copy}
 use Rattle.tta_reload.specs.Facts.{are_among, Knows}

@@ -1,6 +1,6 @@
 use Rattle.std.proofs.Common.{◌≡◌, List, true, get_or, sym, refl, ap, ◌∙◌}
 use Rattle.tta_arch.specs.declared.ends.Source.TheVariants as source
-use Rattle.tta_moves.specs.declared.items.Item.{Item}
+use Rattle.tta_reload.specs.Cited.{Item}
 use Rattle.tta_reload.specs.declared.facts.Fact.{Fact}
 use Rattle.tta_reload.specs.Known.{fact, known, have_one}
 use Rattle.tta_reload.specs.Facts.{is_among, are_among, Knows}

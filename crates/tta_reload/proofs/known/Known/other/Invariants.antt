@@ -1,5 +1,5 @@
 use Rattle.std.proofs.Common.{◌≡◌, List, true, IfSome}
-use Rattle.tta_moves.specs.declared.items.Item.{Item}
+use Rattle.tta_reload.specs.Cited.{Item}
 use Rattle.tta_reload.specs.Known.{fact, known, have_one}
 use Rattle.tta_reload.specs.Facts.{is_among, Knows}
 use Rattle.tta_reload.proofs.known.Known.other.Given as goal

@@ -1,7 +1,5 @@
 use Rattle.std.proofs.Common.{◌≡◌, ◌≤◌, true, List, length, Some, sym, ap, ◌∙◌}
-use Rattle.tta_moves.specs.declared.items.Item.{Item}
-use Rattle.tta_moves.specs.Forms.{is_straight}
-use Rattle.tta_optim.specs.Kept.{KeepsMeaning, AsksNoMore}
+use Rattle.tta_reload.specs.Cited.{Item, is_straight, KeepsMeaning, AsksNoMore}
 use Rattle.tta_reload.specs.Reworked.{IsReworked}
 use Rattle.tta_reload.proofs.Standing.{reworked_stands}
 use Rattle.tta_reload.proofs.reloading.Reloads.reload.Goals as goal

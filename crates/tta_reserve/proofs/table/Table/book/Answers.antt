@@ -1,7 +1,6 @@
 use Rattle.std.proofs.Common.{◌<◌, ◌∙◌, length, sym, ap, subst, set}
 use Rattle.std.specs.Prelude.{slice_get}
-use Rattle.tta_arch.specs.Machine.{Machine}
-use Rattle.tta_arch.specs.Rules.{IsMachine}
+use Rattle.tta_reserve.specs.Cited.{Machine, IsMachine}
 use Rattle.tta_reserve.specs.Booked.{StandsFor}
 use Rattle.tta_reserve.specs.Adding.{with_item}
 use Rattle.tta_reserve.proofs.OneBooked.{booked}

@@ -1,13 +1,7 @@
 use Rattle.std.proofs.Common.{◌≡◌, ◌∙◌, ℕ, ◌<◌, List, Option, Some, None, true, false, sym, ap, subst}
 use Rattle.tta_arch.specs.declared.parts.Template.{Template as Field}
-use Rattle.tta_arch.specs.declared.ends.Source.{Source}
-use Rattle.tta_arch.specs.Machine.{Machine}
-use Rattle.tta_arch.specs.Rules.{IsMachine}
-use Rattle.tta_moves.specs.declared.items.Item.{Item}
+use Rattle.tta_reserve.specs.Cited.{Source, Machine, IsMachine, Item, Slot, Bus, Template, in_cycle}
 use Rattle.tta_moves.specs.declared.items.Item.TheVariants as item
-use Rattle.tta_moves.specs.declared.items.Slot.{Slot}
-use Rattle.tta_moves.specs.declared.items.Slot.TheVariants.{Bus, Template}
-use Rattle.tta_moves.specs.Bounds.{in_cycle}
 use Rattle.tta_reserve.specs.Taken.{is_apart}
 use Rattle.tta_reserve.specs.Booked.{IsLeastSlot}
 use Rattle.tta_reserve.specs.Leaving.{row_takes, row_fills}

@@ -3,11 +3,8 @@ use Rattle.std.specs.Prelude.{◌&&◌, nat_le}
 use Rattle.std.specs.List.{list_all}
 use Rattle.std.proofs.lemmas.List.{take_all}
 use Rattle.std.proofs.lemmas.Bool.{and_parts}
-use Rattle.tta_moves.specs.declared.items.PlacedItem.{PlacedItem}
-use Rattle.tta_moves.specs.Slots.{has_slot, control_is_last}
-use Rattle.tta_moves.specs.FirstFit.{FitsFirst}
+use Rattle.tta_sched.specs.Cited.{PlacedItem, has_slot, control_is_last, FitsFirst, end_of}
 use Rattle.tta_moves.proofs.FirstFitLaws.{first_fit_respects}
-use Rattle.tta_depend.specs.Stands.{end_of}
 use Rattle.tta_sched.proofs.Ones.{Each, each_push, order_step}
 use Rattle.tta_sched.proofs.Firsts.{first_fit_has_room}
 use Rattle.tta_sched.proofs.Fitting.{nothing_kept, no_entry, none_before, end_grows}

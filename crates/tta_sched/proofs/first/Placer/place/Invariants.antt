@@ -1,8 +1,6 @@
 use Rattle.std.proofs.Common.{◌≡◌, ℕ, ◌*◌, ◌≤◌, map, take, Some}
 use Rattle.std.specs.Prelude.{slice_get}
-use Rattle.tta_moves.specs.declared.items.PlacedItem.{PlacedItem}
-use Rattle.tta_moves.specs.FirstFit.{FitsFirst}
-use Rattle.tta_depend.specs.Stands.{end_of}
+use Rattle.tta_sched.specs.Cited.{PlacedItem, FitsFirst, end_of}
 use Rattle.tta_sched.specs.First.{Keeps}
 use Rattle.tta_sched.proofs.first.Placer.place.Given as goal
 

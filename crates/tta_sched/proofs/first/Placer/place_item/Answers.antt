@@ -1,6 +1,5 @@
 use Rattle.std.proofs.Common.{◌≡◌, ◌+◌, ◌∙◌, true, sym, ap, subst, arith}
-use Rattle.tta_reserve.specs.Booked.{StandsFor}
-use Rattle.tta_depend.specs.Stands.{Stands, is_within}
+use Rattle.tta_sched.specs.Cited.{StandsFor, Stands, is_within}
 use Rattle.tta_sched.specs.First.{Asks}
 use Rattle.tta_sched.proofs.Within.{within_of}
 use Rattle.tta_sched.proofs.Fitting.{is_found, no_control_cycle}

@@ -1,5 +1,5 @@
 use Rattle.std.proofs.Common.{◌+◌, sym, ap, ◌∙◌, subst}
-use Rattle.tta_ops.specs.Set.{stated}
+use Rattle.tta_sim.specs.Cited.{stated}
 use Rattle.tta_code.specs.Cycle.{next as next_state}
 use Rattle.tta_sim.specs.Held.{Stands, IsRunOf, held_with, cycles_of}
 use Rattle.tta_sim.proofs.Owning.{own_run, own_goes, state_stands, state_run, units_still}

@@ -1,7 +1,5 @@
 use Rattle.std.proofs.Common.{◌≡◌, ◌+◌, suc, subst, arith}
-use Rattle.tta_list.specs.Iterate.{iterate}
-use Rattle.tta_ops.specs.Set.{stated}
-use Rattle.tta_code.specs.Cycle.{next}
+use Rattle.tta_sim.specs.Cited.{iterate, stated, next}
 use Rattle.tta_sim.specs.Held.{Stands, IsQuiet}
 use Rattle.tta_sim.proofs.Silent.{quiet_more}
 use Rattle.tta_sim.proofs.sim.Sim.go_on.Goals as goal

@@ -1,7 +1,5 @@
 use Rattle.std.proofs.Common.{◌≤◌, ◌+◌, ◌-◌}
-use Rattle.tta_list.specs.Iterate.{iterate}
-use Rattle.tta_ops.specs.Set.{stated}
-use Rattle.tta_code.specs.Cycle.{State, next}
+use Rattle.tta_sim.specs.Cited.{iterate, stated, State, next}
 use Rattle.tta_sim.specs.Held.{Stands, IsRunOf, IsQuiet}
 use Rattle.tta_sim.proofs.sim.Sim.go_on.Given as goal
 

@@ -1,4 +1,4 @@
-use Rattle.tta_code.specs.Cycle.{start}
+use Rattle.tta_sim.specs.Cited.{start}
 use Rattle.tta_sim.specs.Results.{units_of}
 use Rattle.tta_sim.proofs.Owning.{own_run, own_stands}
 use Rattle.tta_sim.proofs.sim.Sim.load.Goals as goal

@@ -1,8 +1,5 @@
 use Rattle.std.proofs.Common.{◌+◌, get_or, length, sym, ap, ◌∙◌, subst, arith}
-use Rattle.tta_ops.specs.Set.{stated}
-use Rattle.tta_arch.specs.Rules.{IsMachine}
-use Rattle.tta_code.specs.Cycle.{Fault}
-use Rattle.tta_flight.specs.Flight.{StayBeside}
+use Rattle.tta_sim.specs.Cited.{stated, IsMachine, Fault, StayBeside}
 use Rattle.tta_sim.specs.Controls.{outcome_of}
 use Rattle.tta_sim.proofs.Going.{halted_stands, fault_stands, fault_answer, past_stands, past_answer, length-lines, past_all}
 use Rattle.tta_sim.proofs.Reaching.{Reached, at_line, code_stays, goes, answers}

@@ -1,7 +1,5 @@
 use Rattle.std.proofs.Common.{◌≡◌, ◌+◌, false, get_or, None, length, slice_get, refl, sym, ap, ◌∙◌, subst, arith}
-use Rattle.tta_ops.specs.Set.{stated}
-use Rattle.tta_arch.specs.Rules.{IsMachine}
-use Rattle.tta_flight.specs.Flight.{StayBeside}
+use Rattle.tta_sim.specs.Cited.{stated, IsMachine, StayBeside}
 use Rattle.tta_sim.specs.Controls.{outcome_of}
 use Rattle.tta_sim.specs.Held.{goes_quietly}
 use Rattle.tta_sim.proofs.Going.{length-lines}

@@ -1,5 +1,5 @@
 use Rattle.std.proofs.Common.{length, replicate, ap, ◌∙◌, subst}
-use Rattle.tta_arch.specs.Rules.{IsMachine}
+use Rattle.tta_sim.specs.Cited.{IsMachine}
 use Rattle.tta_sim.proofs.Going.{first_stands, first_run}
 use Rattle.tta_sim.proofs.state.SimState.load.Goals as goal
 use Rattle.tta_code.proofs.Rooms.{room_few as all_reached}

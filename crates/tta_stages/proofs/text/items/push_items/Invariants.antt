@@ -1,6 +1,6 @@
 use Rattle.std.proofs.Common.{◌≡◌, ◌++◌, take}
 use Rattle.std.specs.List.{flat_map}
-use Rattle.tta_ops.specs.Set.{stated}
+use Rattle.tta_stages.specs.Cited.{stated}
 use Rattle.tta_stages.specs.ListText.{item_line}
 use Rattle.tta_stages.proofs.text.items.push_items.Given as goal
 

@@ -1,4 +1,4 @@
-use Rattle.tta_ops.specs.Set.{stated}
+use Rattle.tta_stages.specs.Cited.{stated}
 use Rattle.tta_arch.proofs.CodeLists.{pieces_more}
 use Rattle.tta_stages.specs.ListText.{block_lists_text}
 use Rattle.tta_stages.proofs.text.lists.push_lists.Goals as goal

@@ -1,6 +1,6 @@
 use Rattle.std.proofs.Common.{◌≡◌, ◌++◌, drop}
 use Rattle.std.specs.List.{flat_map, enumerate_from}
-use Rattle.tta_ops.specs.Set.{stated}
+use Rattle.tta_stages.specs.Cited.{stated}
 use Rattle.tta_stages.specs.ListText.{placed_at}
 use Rattle.tta_stages.proofs.text.placed.push_blocks.Given as goal
 

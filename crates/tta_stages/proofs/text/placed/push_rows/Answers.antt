@@ -1,5 +1,5 @@
 use Rattle.std.proofs.Common.{◌+◌}
-use Rattle.tta_ops.specs.Set.{stated}
+use Rattle.tta_stages.specs.Cited.{stated}
 use Rattle.tta_stages.specs.ListText.{row_at}
 use Rattle.tta_stages.proofs.text.placed.push_rows.Goals as goal
 use Rattle.tta_list.proofs.Lists.{number_more}

@@ -1,8 +1,7 @@
 use Rattle.std.proofs.Common.{ℕ, List, ◌++◌}
 use Rattle.std.specs.Prelude.{codes}
 use Rattle.std.specs.List.{flat_map}
-use Rattle.tta_arch.specs.Fields.{numbers}
-use Rattle.tta_flow.specs.Live.{live_after}
+use Rattle.tta_stages.specs.Cited.{numbers, live_after}
 use Rattle.tta_stages.specs.Words.{var_if}
 use Rattle.tta_stages.specs.ProgramText.{after_text}
 use Rattle.tta_stages.proofs.Pieces.{where_put}

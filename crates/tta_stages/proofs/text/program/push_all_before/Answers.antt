@@ -1,5 +1,5 @@
 use Rattle.std.proofs.Common.{Bool, ◌++◌, ap, ◌∙◌}
-use Rattle.tta_flow.specs.Live.{live_before}
+use Rattle.tta_stages.specs.Cited.{live_before}
 use Rattle.tta_stages.specs.Words.{var_if}
 use Rattle.tta_stages.proofs.text.program.push_all_before.Goals as goal
 use Rattle.tta_list.proofs.Lists.{number_more}

@@ -1,7 +1,6 @@
 use Rattle.std.proofs.Common.{◌≡◌, ◌++◌}
 use Rattle.std.specs.List.{flat_map}
-use Rattle.tta_arch.specs.Fields.{numbers}
-use Rattle.tta_flow.specs.Live.{live_before}
+use Rattle.tta_stages.specs.Cited.{numbers, live_before}
 use Rattle.tta_stages.specs.Words.{var_if}
 use Rattle.tta_stages.proofs.text.program.push_all_before.Given as goal
 

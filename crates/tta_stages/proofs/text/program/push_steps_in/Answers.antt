@@ -1,5 +1,5 @@
 use Rattle.std.proofs.Common.{◌+◌}
-use Rattle.tta_ops.specs.Set.{stated}
+use Rattle.tta_stages.specs.Cited.{stated}
 use Rattle.tta_stages.specs.ProgramText.{step_at_text}
 use Rattle.tta_stages.proofs.text.program.push_steps_in.Goals as goal
 use Rattle.tta_list.proofs.Lists.{number_more}

@@ -1,7 +1,6 @@
 use Rattle.std.proofs.Common.{◌≡◌, ◌++◌, ◌+◌}
 use Rattle.std.specs.List.{flat_map}
-use Rattle.tta_ops.specs.Set.{stated}
-use Rattle.tta_arch.specs.Fields.{numbers}
+use Rattle.tta_stages.specs.Cited.{stated, numbers}
 use Rattle.tta_stages.specs.ProgramText.{step_at_text}
 use Rattle.tta_stages.proofs.text.program.push_steps_in.Given as goal
 

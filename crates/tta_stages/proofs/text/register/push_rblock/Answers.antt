@@ -1,7 +1,6 @@
 use Rattle.std.proofs.Common.{◌≡◌, ℕ, List, ◌++◌, subst}
 use Rattle.std.specs.Prelude.{codes}
-use Rattle.tta_ops.specs.Set.{stated}
-use Rattle.tta_rcode.specs.declared.code.RStep.{RStep}
+use Rattle.tta_stages.specs.Cited.{stated, RStep}
 use Rattle.tta_stages.specs.StepText.{steps_text, exit_text}
 use Rattle.tta_stages.specs.RegisterText.{homes_text, rblock_text}
 use Rattle.tta_stages.proofs.Pieces.{where_put}

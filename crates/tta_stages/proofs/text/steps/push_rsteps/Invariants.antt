@@ -1,6 +1,6 @@
 use Rattle.std.proofs.Common.{◌≡◌, ◌++◌, take}
 use Rattle.std.specs.List.{flat_map}
-use Rattle.tta_ops.specs.Set.{stated}
+use Rattle.tta_stages.specs.Cited.{stated}
 use Rattle.std.specs.Prelude.{codes}
 use Rattle.tta_stages.specs.StepText.{step_text}
 use Rattle.tta_stages.proofs.text.steps.push_rsteps.Given as goal

@@ -1,6 +1,6 @@
 use Rattle.std.proofs.Common.{◌≡◌, ◌++◌}
 use Rattle.std.specs.List.{flat_map}
-use Rattle.tta_arch.specs.Fields.{numbers}
+use Rattle.tta_stages.specs.Cited.{numbers}
 use Rattle.tta_stages.specs.ProgramText.{variable_text}
 use Rattle.tta_stages.proofs.text.variables.push_each.Given as goal
 

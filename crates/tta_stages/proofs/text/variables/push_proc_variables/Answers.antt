@@ -1,9 +1,7 @@
 use Rattle.std.proofs.Common.{ℕ, List, ◌++◌, ap, ◌∙◌}
 use Rattle.std.specs.Prelude.{codes}
 use Rattle.std.specs.List.{flat_map}
-use Rattle.tta_arch.specs.Fields.{numbers}
-use Rattle.tta_program.specs.Program.{Program}
-use Rattle.tta_printed.specs.Printed.{proc_name}
+use Rattle.tta_stages.specs.Cited.{numbers, Program, proc_name}
 use Rattle.tta_stages.specs.ProgramText.{variable_text, proc_variables_text}
 use Rattle.tta_stages.proofs.text.variables.push_proc_variables.Goals as goal
 use Rattle.tta_list.proofs.Lists.{then_more}

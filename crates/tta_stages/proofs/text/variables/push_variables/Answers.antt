@@ -1,6 +1,5 @@
 use Rattle.std.proofs.Common.{rules, ◌≡◌, ◌<◌, ℕ, List, length, get_or, ap, subst, ◌∙◌}
-use Rattle.tta_program.specs.Program.{Program}
-use Rattle.tta_program.specs.declared.program.Proc.{Proc}
+use Rattle.tta_stages.specs.Cited.{Program, Proc}
 use Rattle.tta_stages.specs.ProgramText.{own_slots}
 use Rattle.tta_stages.proofs.Procs.{proc_more}
 use Rattle.tta_stages.proofs.text.variables.push_variables.Goals as goal

@@ -1,7 +1,7 @@
 use Rattle.std.proofs.Common.{◌≡◌, ◌∙◌, ap, true, false, length}
 use Rattle.std.specs.Prelude.{nat_lt, nat_le, Ok}
 use Rattle.std.proofs.lemmas.Bool.{lt-ltb, le-ltb, lt-leb}
-use Rattle.tta_ops.specs.Set.{stated}
+use Rattle.tta_tac.specs.Cited.{stated}
 use Rattle.tta_tac.specs.Draft.{draft_seen, proc_seen, step_seen}
 use Rattle.tta_tac.specs.Seen.{form_seen}
 use Rattle.tta_tac.proofs.Lines.{take_step_many, take_step_taken, step_added}

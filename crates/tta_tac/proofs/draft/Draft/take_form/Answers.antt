@@ -1,6 +1,5 @@
 use Rattle.std.proofs.Common.{◌∙◌, sym, None}
-use Rattle.tta_reading.specs.Lines.{texts}
-use Rattle.tta_ops.specs.Set.{stated}
+use Rattle.tta_tac.specs.Cited.{texts, stated}
 use Rattle.tta_tac.specs.Forms.{ProcForm, DataForm}
 use Rattle.tta_tac.specs.Draft.{draft_seen, proc_seen}
 use Rattle.tta_tac.specs.Seen.{form_seen}

@@ -1,7 +1,7 @@
 use Rattle.std.proofs.Common.{◌≡◌, ◌≤◌, ◌∙◌, sym, ap, subst, false, length}
 use Rattle.std.specs.Prelude.{nat_lt, nat_le, Ok}
 use Rattle.std.proofs.lemmas.Bool.{le-ltb, lt-leb}
-use Rattle.tta_reading.specs.Lines.{texts}
+use Rattle.tta_tac.specs.Cited.{texts}
 use Rattle.tta_tac.specs.Draft.{draft_seen}
 use Rattle.tta_tac.proofs.Lines.{take_proc_taken, none_begun}
 use Rattle.tta_tac.proofs.Seen.{texts_length}

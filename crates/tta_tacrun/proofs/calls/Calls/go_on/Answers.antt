@@ -1,8 +1,6 @@
 use Rattle.std.proofs.Common.{◌≡◌, ℕ, List, ◌+◌, ◌-◌, [], length, map, reverse, get_or, ap, sym, ◌∙◌, subst}
 use Rattle.std.proofs.lemmas.List.{get_or_read, get_or-set_same}
-use Rattle.tta_list.specs.Iterate.{iterate}
-use Rattle.tta_ops.specs.Set.{stated}
-use Rattle.tta_program.specs.Sequential.{next}
+use Rattle.tta_tacrun.specs.Cited.{iterate, stated, next}
 use Rattle.tta_tacrun.specs.Calls.{Calls, frame_of}
 use Rattle.tta_tacrun.specs.declared.phase.Phase.TheVariants.{Running}
 use Rattle.tta_tacrun.specs.declared.flat.FlatStep.{FlatStep}

@@ -1,8 +1,7 @@
 use Rattle.std.proofs.Common.{◌≡◌, ℕ, List, [], length, map, reverse, get_or, Some, ap, sym, ◌∙◌, subst}
 use Rattle.std.specs.Prelude.{IfSome}
 use Rattle.std.proofs.lemmas.List.{get_or_read, get_or-set_same}
-use Rattle.tta_ops.specs.Set.{stated}
-use Rattle.tta_program.specs.Sequential.{carry_out}
+use Rattle.tta_tacrun.specs.Cited.{stated, carry_out}
 use Rattle.tta_tacrun.specs.Calls.{Calls, frame_of}
 use Rattle.tta_tacrun.specs.declared.phase.Phase.TheVariants.{Running}
 use Rattle.tta_tacrun.specs.Flat.{said}

@@ -1,6 +1,6 @@
 use Rattle.std.proofs.Common.{◌≡◌, length, ap, ◌∙◌, arith}
 use Rattle.std.proofs.lemmas.List.{length-map}
-use Rattle.tta_program.specs.Program.{Program}
+use Rattle.tta_tacrun.specs.Cited.{Program}
 use Rattle.tta_tacrun.proofs.First.{calls_first}
 use Rattle.tta_tacrun.proofs.Kept.{kept_first}
 use Rattle.tta_tacrun.proofs.calls.Calls.of.Goals as goal

@@ -1,6 +1,6 @@
 use Rattle.std.proofs.Common.{◌∷◌, get_or, ap, sym, ◌∙◌, subst}
 use Rattle.std.proofs.lemmas.List.{length-map}
-use Rattle.tta_ops.specs.Set.{stated}
+use Rattle.tta_tacrun.specs.Cited.{stated}
 use Rattle.tta_tacrun.specs.Code.{said_proc}
 use Rattle.tta_tacrun.specs.Flat.{said}
 use Rattle.tta_tacrun.specs.Run.{HasSteps, goes_quietly, is_path, is_placed}

@@ -1,8 +1,6 @@
 use Rattle.std.proofs.Common.{◌≡◌, ℕ, Bool, Option, inl, inr, refl, ap, sym, ◌∙◌, subst, add-zero}
 use Rattle.std.specs.Prelude.{option_copied, ◌&&◌, is_none, slice_get}
-use Rattle.tta_ops.specs.Set.{stated}
-use Rattle.tta_program.specs.declared.step.Step.{Step}
-use Rattle.tta_program.specs.Sequential.{State, Halted, takes, waits}
+use Rattle.tta_tacrun.specs.Cited.{stated, Step, State, Halted, takes, waits}
 use Rattle.tta_tacrun.specs.declared.answer.SeqStep.TheVariants.{Ran}
 use Rattle.tta_tacrun.specs.Run.{outcome_of, IsAnswer}
 use Rattle.tta_tacrun.proofs.Placed.{run_carried}

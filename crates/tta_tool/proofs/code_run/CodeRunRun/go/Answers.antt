@@ -1,5 +1,5 @@
 use Rattle.std.proofs.Common.{ap}
-use Rattle.tta_ops.specs.Set.{stated}
+use Rattle.tta_tool.specs.Cited.{stated}
 use Rattle.tta_code.specs.Cycle.{State, next}
 use Rattle.tta_sim.proofs.Silent.{fault_is_quiet}
 use Rattle.tta_tool.proofs.CodeCycles.{halted_stays, fault_stays}

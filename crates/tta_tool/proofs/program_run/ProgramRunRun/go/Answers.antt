@@ -1,5 +1,5 @@
 use Rattle.std.proofs.Common.{ap}
-use Rattle.tta_ops.specs.Set.{stated}
+use Rattle.tta_tool.specs.Cited.{stated}
 use Rattle.tta_program.specs.Sequential.{State, next}
 use Rattle.tta_tool.proofs.program_run.ProgramRunRun.go.Goals as goal
 use Rattle.tta_program.proofs.Halted.{halted_stays}

@@ -1,0 +1,57 @@
+-- What the definitions and lemmas of this crate cite of other crates, passed on from one place. Declares nothing.
+pub use Rattle.tta_agree.specs.Agrees.{HaltAlike, IsGiven, code_at, program_at}
+pub use Rattle.tta_arch.specs.Effects.{Brought, Calls, Halts, Jumps, Kind, Start, Written, bring, control_of, first_some, put_out, start_of, write_of}
+pub use Rattle.tta_arch.specs.Machine.{Machine}
+pub use Rattle.tta_arch.specs.declared.parts.Op.{Op}
+pub use Rattle.tta_arch.specs.declared.parts.Op.TheVariants.{Out}
+unfoldable pub use Rattle.tta_asm.specs.Canonical.{canonical}
+pub use Rattle.tta_build.specs.Converted.{HasConvertedCause, IsBuiltConverted}
+pub use Rattle.tta_build.specs.Statement.{HasCause, IsBuilt}
+pub use Rattle.tta_check.specs.Verdict.{IsSafe, IsUnsafe, NeverFaults}
+pub use Rattle.tta_code.specs.Cycle.{Fault, Pending, acts, cyc, effects_of, fault_of, lands, or_fault, or_wait, pending_after, read_source, takes_effect}
+pub use Rattle.tta_code.specs.Whole.{Whole, data_in, laid_by}
+pub use Rattle.tta_code.specs.declared.code.Code.{Code}
+pub use Rattle.tta_code.specs.declared.code.Instruction.{Instruction}
+pub use Rattle.tta_debug.specs.Debugged.{Debugged}
+pub use Rattle.tta_debug.specs.Sessions.{Follows, Session'}
+pub use Rattle.tta_given.specs.Assemblies.{IsAssemblyFor, RefusesAssembly}
+pub use Rattle.tta_given.specs.Ends.{IsUsage, PutEnds, Puts, Writes, WritesMade, WritingEnds}
+pub use Rattle.tta_given.specs.Held.{FileFails, IsHeld, IsTaken, MadeEnds, ReadFails, WasRead, limit, no_memory}
+pub use Rattle.tta_given.specs.Images.{IsImageFor, RefusesImage}
+pub use Rattle.tta_given.specs.Inputs.{Fills, HasInput, HasStream, IsStream, ReadsGiven, ReadsStream, RefusesInput, StreamFails}
+pub use Rattle.tta_given.specs.Machines.{HasMachine, MachineFails}
+pub use Rattle.tta_given.specs.Pairs.{HasPair, PairFails}
+pub use Rattle.tta_given.specs.Programs.{IsProgramFor, IsProgramIn, RefusesProgram, RefusesProgramFor}
+pub use Rattle.tta_given.specs.Runs.{PairRuns, bound_of}
+pub use Rattle.tta_given.specs.Sources.{RefusesSource}
+pub use Rattle.tta_given.specs.declared.machine.MachineFile.{MachineFile}
+pub use Rattle.tta_given.specs.declared.pair.CodePair.{CodePair}
+pub use Rattle.tta_given.specs.declared.status.Status.{Status}
+pub use Rattle.tta_ifconv.specs.Converted.{Converted}
+pub use Rattle.tta_image.specs.Image.{Image}
+pub use Rattle.tta_list.specs.Iterate.{iterate}
+pub use Rattle.tta_list.specs.Laid.{over}
+pub use Rattle.tta_network.specs.Net.{Nets}
+pub use Rattle.tta_network.specs.Request.{is_net, rounds_of}
+pub use Rattle.tta_ops.specs.Set.{stated}
+pub use Rattle.tta_ops.specs.Units.{Units}
+pub use Rattle.tta_ports.specs.Files.{Holds}
+pub use Rattle.tta_ports.specs.Output.{IsCut, IsPut, IsQuiet, Output}
+pub use Rattle.tta_ports.specs.Store.{Store}
+pub use Rattle.tta_ports.specs.World.{IsUntouched, World}
+pub use Rattle.tta_print.specs.Lines.{lines_text, word_lines}
+pub use Rattle.tta_print.specs.declared.line.Line.{Line}
+unfoldable pub use Rattle.tta_printed.specs.Printed.{printed}
+pub use Rattle.tta_program.specs.Program.{Program, data_of, step_count}
+pub use Rattle.tta_program.specs.Sequential.{Frame, assigns, go_on, goes_through, goes_to, holds, operand, step_at, take_value}
+pub use Rattle.tta_program.specs.declared.program.Proc.{Proc}
+pub use Rattle.tta_program.specs.declared.step.Step.{Step}
+pub use Rattle.tta_program.specs.declared.step.Step.TheVariants.{End, Invoke, Put, Return, When}
+pub use Rattle.tta_run.specs.Loops.{Keeps}
+pub use Rattle.tta_run.specs.Meaning.{Meaning, OutputGrows, WaitStays}
+pub use Rattle.tta_run.specs.Reports.{WaitReports, last_text}
+pub use Rattle.tta_run.specs.declared.ended.Ended.{Ended}
+pub use Rattle.tta_sample.specs.Sample.{sample_text}
+pub use Rattle.tta_sim.specs.Held.{is_fault}
+pub use Rattle.tta_tac.specs.Text.{ProgramText}
+unfoldable pub use Rattle.tta_text.specs.Numbers.{digits_of}
