@@ -5,29 +5,29 @@ use Rattle.std.specs.Option.{option_map_or}
 use Rattle.std.proofs.lemmas.Bool.{eq-eqb, and_from}
 use Rattle.tta_check.specs.Cited.{Machine, Kind, Jumps, Calls, Halts, Target, Trigger, Control, Effect, Instruction, Code, effects_of}
 use Rattle.tta_arch.specs.Effects.{Reg, Imm, Operand}
-use Rattle.tta_check.specs.declared.held.Held.{Held}
-use Rattle.tta_check.specs.declared.held.Held.TheVariants.{Nothing, One, Two}
-use Rattle.tta_check.specs.declared.row.Row.{Row}
-use Rattle.tta_check.specs.declared.sense.Sense.{Sense}
-use Rattle.tta_check.specs.declared.spot.Spot.{Spot}
-use Rattle.tta_check.specs.declared.visit.Onward.{Onward}
+use Rattle.tta_check.specs.declared.values.ValueSet.{ValueSet}
+use Rattle.tta_check.specs.declared.values.ValueSet.TheVariants.{Nothing, One, Two}
+use Rattle.tta_check.specs.declared.state.AbstractState.{AbstractState}
+use Rattle.tta_check.specs.declared.guard_value.GuardValue.{GuardValue}
+use Rattle.tta_check.specs.declared.location.Location.{Location}
+use Rattle.tta_check.specs.declared.visit.Successor.{Successor}
 use Rattle.tta_check.specs.Walks.{Word, takes_address, control_to}
 use Rattle.tta_check.specs.Verdict.{GoesTo, Disagree}
 use Rattle.tta_check.specs.Facts.{Origin, Fixed, From, origin_of, gives}
 use Rattle.tta_check.specs.Causes.{unknown}
-use Rattle.tta_check.specs.Keys.{Under, Key, leads, key_after, key_of, next_key}
-use Rattle.tta_check.specs.Rows.{cell_of, tells, covers, tells_word}
+use Rattle.tta_check.specs.ProgramPoints.{Under, ProgramPoint, leads, point_after, point_of, next_point}
+use Rattle.tta_check.specs.States.{cell_of, tells, covers, tells_word}
 use Rattle.tta_check.specs.Steps.{words_of}
 use Rattle.tta_check.specs.Controls.{controller, does}
-use Rattle.tta_check.specs.Aims.{only_word, aim_of}
-use Rattle.tta_check.specs.Going.{key_as}
+use Rattle.tta_check.specs.JumpTargets.{only_word, jump_target_of}
+use Rattle.tta_check.specs.Going.{point_as}
 use Rattle.tta_check.specs.Visits.{IsWay, GoesOn}
-use Rattle.tta_check.specs.Tables.{same_kind, same_under, same_key, ago, place_at}
+use Rattle.tta_check.specs.Tables.{same_kind, same_under, same_point, ago, place_at}
 use Rattle.tta_check.proofs.Gives.{none_in}
 use Rattle.tta_check.proofs.Table.{Single, none_of}
 use Rattle.tta_check.proofs.Lone.{once_address}
 use Rattle.tta_check.proofs.Going.{single_goes, two_goes}
-use Rattle.tta_check.proofs.Aims.{only_single}
+use Rattle.tta_check.proofs.JumpTargets.{only_single}
 use Rattle.tta_check.proofs.Visiting.{IsEntry, IsThere, controller_in, told_code, no_code_in, only_of, free_of}
 use Rattle.tta_check.proofs.Placing.{place_parts}
 
@@ -53,62 +53,62 @@ CameBy m code address None = Unit {0}
 CameBy m code address (Some u) = Made m code address u
 
 -- the control move that is under way where walks stand, if any, was made so
-abbrev pub Came : Machine → Code → Key → Type 0
+abbrev pub Came : Machine → Code → ProgramPoint → Type 0
 Came m code k = CameBy m code k.address k.under
 
 -- ---- it is handed on
 
-same_some : (j k : Key) → Some j ≡ Some k → j ≡ k
+same_some : (j k : ProgramPoint) → Some j ≡ Some k → j ≡ k
 same_some j k e = cc
 
-key_came : (m : Machine) (code : Code) (address from left : ℕ) (kind : Kind) (word : ℕ) → Mover m code from (kind, word) → from + m.control.delay ≡ address + left → left ≤ m.control.delay
-    → (k : Key) → key_after address left kind word ≡ Some k → Came m code k
-key_came m code address from zero kind word mover when most k h = on kind h where
+point_came : (m : Machine) (code : Code) (address from left : ℕ) (kind : Kind) (word : ℕ) → Mover m code from (kind, word) → from + m.control.delay ≡ address + left → left ≤ m.control.delay
+    → (k : ProgramPoint) → point_after address left kind word ≡ Some k → Came m code k
+point_came m code address from zero kind word mover when most k h = on kind h where
   on : (d : Kind) → leads d word ≡ Some k → Came m code k
   on Jumps h = subst (Came m code) (same_some _ k h) tt
   on Calls h = subst (Came m code) (same_some _ k h) tt
   on Halts h = absurd cc
-key_came m code address from (suc left) kind word mover when most k h =
+point_came m code address from (suc left) kind word mover when most k h =
     subst (Came m code) (same_some _ k h) (record { from = from; mover = mover; when = (let e : from + m.control.delay ≡ address + 1 + left = omega arith in e); soon = (let e : left < m.control.delay = omega arith in e) })
 
-pub came_on : (m : Machine) (code : Code) (k k' : Key) (c : Option (Kind × ℕ)) → Came m code k → ((d : Kind × ℕ) → c ≡ Some d → Mover m code k.address d) → next_key m k c ≡ Some k' → Came m code k'
+pub came_on : (m : Machine) (code : Code) (k k' : ProgramPoint) (c : Option (Kind × ℕ)) → Came m code k → ((d : Kind × ℕ) → c ≡ Some d → Mover m code k.address d) → next_point m k c ≡ Some k' → Came m code k'
 came_on m code k k' None came mover h = on k.under came h where
-  on : (u : Option Under) → CameBy m code k.address u → key_of k.address u ≡ Some k' → Came m code k'
+  on : (u : Option Under) → CameBy m code k.address u → point_of k.address u ≡ Some k' → Came m code k'
   on None came h = subst (Came m code) (same_some _ k' h) tt
-  on (Some u) came h = key_came m code k.address came.from u.left u.kind u.word came.mover came.when (let e = came.soon in omega arith) k' h
-came_on m code k k' (Some c) came mover h = key_came m code k.address k.address m.control.delay c.0 c.1 (mover c refl) refl (omega arith) k' h
+  on (Some u) came h = point_came m code k.address came.from u.left u.kind u.word came.mover came.when (let e = came.soon in omega arith) k' h
+came_on m code k k' (Some c) came mover h = point_came m code k.address k.address m.control.delay c.0 c.1 (mover c refl) refl (omega arith) k' h
 
 -- ---- the control move of an instruction that goes on
 
 -- a jump or call to a word that is not known is told
-unknown_told : (r : Row) (e : Effect) → takes_address e.target ≡ true → only_word (words_of r.cells.items (origin_of e.src)) ≡ Some None → option_map_or (tells r) (unknown e) false ≡ true
+unknown_told : (r : AbstractState) (e : Effect) → takes_address e.target ≡ true → only_word (words_of r.cells.items (origin_of e.src)) ≡ Some None → option_map_or (tells r) (unknown e) false ≡ true
 unknown_told r e takes h = ap (λ b. option_map_or (tells r) (if b then gives (origin_of e.src) None else None) false) takes ∙ on (origin_of e.src) h where
   fixed : (x : Word) → Some x ≡ Some None → option_map_or (tells r) (gives (Fixed x) None) false ≡ true
   fixed None h = refl
   fixed (Some y) h = absurd cc
 
-  held : (h : Held) → only_word h ≡ Some None → tells_word h None ≡ true
-  held Nothing h = absurd cc
-  held (One None) h = refl
-  held (One (Some y)) h = absurd cc
-  held (Two a b) h = absurd cc
+  values : (h : ValueSet) → only_word h ≡ Some None → tells_word h None ≡ true
+  values Nothing h = absurd cc
+  values (One None) h = refl
+  values (One (Some y)) h = absurd cc
+  values (Two a b) h = absurd cc
 
   on : (o : Origin) → only_word (words_of r.cells.items o) ≡ Some None → option_map_or (tells r) (gives o None) false ≡ true
   on (Fixed x) h = fixed x h
-  on (From q) h = held (cell_of r.cells.items q).held h
+  on (From q) h = values (cell_of r.cells.items q).values h
 
-pub mover_of : (m : Machine) (code : Code) (spots : List Spot) (i : Instruction) (at : Onward) (acts stays : Option Onward) → IsEntry m code spots at → IsThere m code spots i at → (g : GoesOn m i at acts stays)
-    → (does_act : Bool) (c : Kind × ℕ) → does g.word (controller (effects_of m i)) does_act ≡ Some c → Mover m code at.key.address c
-mover_of m code spots i at acts stays entry t g does_act c h = on (controller (effects_of m i)) refl does_act h where
+pub mover_of : (m : Machine) (code : Code) (locations : List Location) (i : Instruction) (at : Successor) (acts stays : Option Successor) → IsEntry m code locations at → IsThere m code locations i at → (g : GoesOn m i at acts stays)
+    → (does_act : Bool) (c : Kind × ℕ) → does g.word (controller (effects_of m i)) does_act ≡ Some c → Mover m code at.point.address c
+mover_of m code locations i at acts stays entry t g does_act c h = on (controller (effects_of m i)) refl does_act h where
   es : List Effect
   es = effects_of m i
 
   known : (e : Effect) → controller es ≡ Some e → takes_address e.target ≡ true → g.word ≡ None → false ≡ true
   known e is takes none =
-      sym (none_in (λ x. option_map_or (tells at.row) (unknown x) false) es e (controller_in es e is)
-      (none_of (tells at.row) m _ es (told_code m i at ∙ no_code_in m i at g.no_end)).unknowns)
-      ∙ unknown_told at.row e takes
-      (sym (ap (λ b. if b then only_word (words_of at.row.cells.items (origin_of e.src)) else Some None) takes) ∙ sym (ap (aim_of at.row.cells.items) is) ∙ g.aim ∙ ap Some none)
+      sym (none_in (λ x. option_map_or (tells at.state) (unknown x) false) es e (controller_in es e is)
+      (none_of (tells at.state) m _ es (told_code m i at ∙ no_code_in m i at g.no_end)).unknowns)
+      ∙ unknown_told at.state e takes
+      (sym (ap (λ b. if b then only_word (words_of at.state.cells.items (origin_of e.src)) else Some None) takes) ∙ sym (ap (jump_target_of at.state.cells.items) is) ∙ g.jump_target ∙ ap Some none)
 
   word_is : (v : ℕ) (x : Target) → takes_address x ≡ true → control_to (Some v) x ≡ Some c → v ≡ c.1
   word_is v (Control Jumps) takes h = cc
@@ -119,24 +119,24 @@ mover_of m code spots i at acts stays entry t g does_act c h = on (controller (e
   word_is v (Operand u) takes h = absurd cc
   word_is v (Trigger u o) takes h = absurd cc
 
-  goes : (e : Effect) → controller es ≡ Some e → (w : Word) → g.word ≡ w → control_to w e.target ≡ Some c → takes_address e.target ≡ true → GoesTo m code at.key.address c.1
+  goes : (e : Effect) → controller es ≡ Some e → (w : Word) → g.word ≡ w → control_to w e.target ≡ Some c → takes_address e.target ≡ true → GoesTo m code at.point.address c.1
   goes e is None word does takes = absurd (let f = known e is takes word in cc)
   goes e is (Some v) word does takes =
-      subst (GoesTo m code at.key.address) (word_is v e.target takes does)
-      (single_goes (covers at.row) (tells at.row) m code (key_as at.key) i entry.witnessed refl t.there (free_of m i at acts stays t.legal g) v
-      (subst (λ w. Single (covers at.row) es w) word (only_single at.row es g.word (only_of m i at acts stays t.legal g)))
+      subst (GoesTo m code at.point.address) (word_is v e.target takes does)
+      (single_goes (covers at.state) (tells at.state) m code (point_as at.point) i entry.witnessed refl t.there (free_of m i at acts stays t.legal g) v
+      (subst (λ w. Single (covers at.state) es w) word (only_single at.state es g.word (only_of m i at acts stays t.legal g)))
       (once_address m i t.legal) e (controller_in es e is) takes)
 
-  on : (o : Option Effect) → controller es ≡ o → (b : Bool) → does g.word o b ≡ Some c → Mover m code at.key.address c
+  on : (o : Option Effect) → controller es ≡ o → (b : Bool) → does g.word o b ≡ Some c → Mover m code at.point.address c
   on None is b h = absurd cc
   on (Some e) is false h = absurd cc
   on (Some e) is true h = record { by = i; there = t.there; move = e; control = is; word = g.word; does = h; goes = goes e is g.word refl h }
 
 -- where walks go on the control move that is under way was made so
-pub way_came : (m : Machine) (code : Code) (spots : List Spot) (i : Instruction) (at x : Onward) (acts stays : Option Onward) (sense : Option Sense) (does_act : Bool) → IsEntry m code spots at → IsThere m code spots i at
-    → (g : GoesOn m i at acts stays) → IsWay m i at sense (does g.word (controller (effects_of m i)) does_act) (Some x) → Came m code (key_as at.key) → Came m code (key_as x.key)
-way_came m code spots i at x acts stays sense does_act entry t g way came =
-    came_on m code (key_as at.key) (key_as x.key) (does g.word (controller (effects_of m i)) does_act) came (mover_of m code spots i at acts stays entry t g does_act) (sym way.key)
+pub way_came : (m : Machine) (code : Code) (locations : List Location) (i : Instruction) (at x : Successor) (acts stays : Option Successor) (guard_value : Option GuardValue) (does_act : Bool) → IsEntry m code locations at → IsThere m code locations i at
+    → (g : GoesOn m i at acts stays) → IsWay m i at guard_value (does g.word (controller (effects_of m i)) does_act) (Some x) → Came m code (point_as at.point) → Came m code (point_as x.point)
+way_came m code locations i at x acts stays guard_value does_act entry t g way came =
+    came_on m code (point_as at.point) (point_as x.point) (does g.word (controller (effects_of m i)) does_act) came (mover_of m code locations i at acts stays entry t g does_act) (sym way.point)
 
 -- ---- two at one place
 
@@ -177,7 +177,7 @@ movers_differ m code from u v a b left differs = on (takes_address a.move.target
   on true takes = two_goes m code from u.word v.word different (a.goes takes) (b.goes (ap (λ e. takes_address e.target) (sym move_is) ∙ takes))
   on false takes = absurd (different (alike.1 takes))
 
-pub two_made : (m : Machine) (code : Code) (j k : Key) → Came m code j → Came m code k → place_at m.control.delay j ≡ place_at m.control.delay k → same_key j k ≡ false
+pub two_made : (m : Machine) (code : Code) (j k : ProgramPoint) → Came m code j → Came m code k → place_at m.control.delay j ≡ place_at m.control.delay k → same_point j k ≡ false
     → Disagree m code (k.address - ago m.control.delay k.under)
 two_made m code j k came_j came_k same differs =
     let p = place_parts m.control.delay j.address k.address j.under k.under same in

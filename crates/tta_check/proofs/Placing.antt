@@ -3,15 +3,15 @@ use Rattle.std.proofs.Common.{◌≡◌, ℕ, ◌+◌, ◌*◌, ◌-◌, ◌≤�
 use Rattle.std.specs.Prelude.{nat_lt, slice_get}
 use Rattle.std.proofs.lemmas.Bool.{ltb-true, ltb-false}
 use Rattle.std.proofs.Math.Nat.{mul-le-mul_right}
-use Rattle.tta_check.specs.declared.row.Port.{Port}
-use Rattle.tta_check.specs.declared.row.Row.{Row}
+use Rattle.tta_check.specs.declared.state.Port.{Port}
+use Rattle.tta_check.specs.declared.state.AbstractState.{AbstractState}
 use Rattle.tta_check.specs.declared.entries.EntryTable.{EntryTable}
 use Rattle.tta_check.specs.declared.verdict.Verdict.TheVariants.{Unsafe}
-use Rattle.tta_check.specs.declared.visit.Onward.{Onward}
-use Rattle.tta_check.specs.Keys.{Under}
-use Rattle.tta_check.specs.Going.{key_as}
-use Rattle.tta_check.specs.Joined.{joined_ports}
-use Rattle.tta_check.specs.Tables.{ago, place_at, same_key, Fits, Sets, Puts, Grown, Calm, PutEnds, Differs, Grows}
+use Rattle.tta_check.specs.declared.visit.Successor.{Successor}
+use Rattle.tta_check.specs.ProgramPoints.{Under}
+use Rattle.tta_check.specs.Going.{point_as}
+use Rattle.tta_check.specs.Joins.{join_ports}
+use Rattle.tta_check.specs.Tables.{ago, place_at, same_point, Fits, Sets, Puts, Grown, Calm, PutEnds, Differs, Grows}
 
 ago_most : (delay : ℕ) (u : Option Under) → ago delay u ≤ delay
 ago_most delay None = omega arith
@@ -23,9 +23,9 @@ mul_below a n d g h k =
     let f : (a + 1) * (d + 1) ≡ a * (d + 1) + (d + 1) = grind arith in
     omega arith
 
-pub place_below : (delay len : ℕ) (o : Onward) (t : EntryTable) → Fits delay len o t → o.key.address < len → place_at delay (key_as o.key) < length t.entries.items
+pub place_below : (delay len : ℕ) (o : Successor) (t : EntryTable) → Fits delay len o t → o.point.address < len → place_at delay (point_as o.point) < length t.entries.items
 place_below delay len o t fits below =
-    subst (λ n. place_at delay (key_as o.key) < n) (sym fits.count) (mul_below o.key.address len delay (ago delay (key_as o.key).under) below (ago_most delay (key_as o.key).under))
+    subst (λ n. place_at delay (point_as o.point) < n) (sym fits.count) (mul_below o.point.address len delay (ago delay (point_as o.point).under) below (ago_most delay (point_as o.point).under))
 
 -- a place has one address, and one number of cycles since the control move
 pub place_parts : (d a b : ℕ) (u v : Option Under) → a * (d + 1) + ago d u ≡ b * (d + 1) + ago d v → (a ≡ b) × (ago d u ≡ ago d v)
@@ -48,27 +48,27 @@ place_within d len a u below = on (nat_lt a len) refl where
   on true h = ltb-true a len h
   on false h = absurd (let f : len * (d + 1) ≤ a * (d + 1) = mul-le-mul_right (d + 1) (ltb-false a len h) in omega arith)
 
-pub joined_count : (ps qs : List Port) → length (joined_ports ps qs) ≡ length ps
-joined_count [] qs = refl
-joined_count (p ∷ ps) [] = refl
-joined_count (p ∷ ps) (q ∷ qs) = let e = joined_count ps qs in omega arith
+pub join_count : (ps qs : List Port) → length (join_ports ps qs) ≡ length ps
+join_count [] qs = refl
+join_count (p ∷ ps) [] = refl
+join_count (p ∷ ps) (q ∷ qs) = let e = join_count ps qs in omega arith
 
 -- ---- what comes of putting
 
-pub put_differs : (delay len : ℕ) (o e : Onward) (t : EntryTable) (p x : ℕ) → p ≡ place_at delay (key_as o.key) → slice_get t.entries.items p ≡ Some (Some e) → same_key (key_as e.key) (key_as o.key) ≡ false
-    → x ≡ o.key.address - ago delay (key_as o.key).under → PutEnds delay len o t (Unsafe 80 x)
+pub put_differs : (delay len : ℕ) (o e : Successor) (t : EntryTable) (p x : ℕ) → p ≡ place_at delay (point_as o.point) → slice_get t.entries.items p ≡ Some (Some e) → same_point (point_as e.point) (point_as o.point) ≡ false
+    → x ≡ o.point.address - ago delay (point_as o.point).under → PutEnds delay len o t (Unsafe 80 x)
 put_differs delay len o e t p x here there differs is =
     subst (λ n. PutEnds delay len o t (Unsafe 80 n)) (sym is) (Differs e (ap (slice_get t.entries.items) (sym here) ∙ there) differs)
 
-pub put_calm : (delay : ℕ) (o e : Onward) (t : EntryTable) (p : ℕ) (g : Option Row) → p ≡ place_at delay (key_as o.key) → slice_get t.entries.items p ≡ Some (Some e) → same_key (key_as e.key) (key_as o.key) ≡ true
-    → Grows e.row o.row g → g ≡ None → Puts delay o t t
+pub put_calm : (delay : ℕ) (o e : Successor) (t : EntryTable) (p : ℕ) (g : Option AbstractState) → p ≡ place_at delay (point_as o.point) → slice_get t.entries.items p ≡ Some (Some e) → same_point (point_as e.point) (point_as o.point) ≡ true
+    → Grows e.state o.state g → g ≡ None → Puts delay o t t
 put_calm delay o e t p g here there same grows is =
-    let r = subst (Grows e.row o.row) is grows in
-    Calm e (record { key = o.key; row = r.0 }) (ap (slice_get t.entries.items) (sym here) ∙ there) (record { same = same; key = refl; joined = r.1; most = r.2 }) r.3 refl
+    let r = subst (Grows e.state o.state) is grows in
+    Calm e (record { point = o.point; state = r.0 }) (ap (slice_get t.entries.items) (sym here) ∙ there) (record { same = same; point = refl; join = r.1; most = r.2 }) r.3 refl
 
-pub put_grown : (delay : ℕ) (o e : Onward) (old new : EntryTable) (p : ℕ) (g : Option Row) (row : Row) → p ≡ place_at delay (key_as o.key) → slice_get old.entries.items p ≡ Some (Some e) → same_key (key_as e.key) (key_as o.key) ≡ true
-    → Grows e.row o.row g → g ≡ Some row → Sets p (record { key = o.key; row = row }) old new → Puts delay o old new
-put_grown delay o e old new p g row here there same grows is sets =
-    let r = subst (Grows e.row o.row) is grows in
-    Grown e (record { key = o.key; row = row }) (ap (slice_get old.entries.items) (sym here) ∙ there) (record { same = same; key = refl; joined = r.0; most = r.1 }) r.2
-    (subst (λ n. Sets n (record { key = o.key; row = row }) old new) here sets)
+pub put_grown : (delay : ℕ) (o e : Successor) (old new : EntryTable) (p : ℕ) (g : Option AbstractState) (state : AbstractState) → p ≡ place_at delay (point_as o.point) → slice_get old.entries.items p ≡ Some (Some e) → same_point (point_as e.point) (point_as o.point) ≡ true
+    → Grows e.state o.state g → g ≡ Some state → Sets p (record { point = o.point; state = state }) old new → Puts delay o old new
+put_grown delay o e old new p g state here there same grows is sets =
+    let r = subst (Grows e.state o.state) is grows in
+    Grown e (record { point = o.point; state = state }) (ap (slice_get old.entries.items) (sym here) ∙ there) (record { same = same; point = refl; join = r.0; most = r.1 }) r.2
+    (subst (λ n. Sets n (record { point = o.point; state = state }) old new) here sets)

@@ -1,58 +1,58 @@
--- What an instruction gives is right: a verdict is true of the code, and where walks go on the rows have their walks again.
+-- What an instruction gives is right: a verdict is true of the code, and where walks go on the abstract states have their walks again.
 use Rattle.std.proofs.Common.{◌≡◌, ℕ, zero, suc, ◌+◌, Bool, true, false, List, [], ◌∷◌, map, length, Option, Some, None, refl, ap, sym, subst, ◌∙◌, inl, inr, arith}
 use Rattle.std.specs.Prelude.{◌||◌, is_some, if◌then◌else◌, slice_get}
 use Rattle.std.specs.Option.{option_map, option_map_or}
 use Rattle.std.specs.List.{list_any}
 use Rattle.tta_check.specs.Cited.{Machine, IsMachine, Kind, Target, Trigger, Control, Effect, Place, or_else, Instruction, Code, effects_of, is_legal}
 use Rattle.tta_arch.specs.Effects.{Reg, Imm, Operand, same_place}
-use Rattle.tta_check.specs.declared.held.Held.{Held}
-use Rattle.tta_check.specs.declared.held.Held.TheVariants.{Nothing, One, Two}
-use Rattle.tta_check.specs.declared.key.Under.{Under as KeptUnder}
-use Rattle.tta_check.specs.declared.row.Kept.{Kept}
-use Rattle.tta_check.specs.declared.row.Port.{Port}
-use Rattle.tta_check.specs.declared.row.Row.{Row}
-use Rattle.tta_check.specs.declared.sense.Sense.{Sense}
-use Rattle.tta_check.specs.declared.spot.Spot.{Spot}
-use Rattle.tta_check.specs.declared.turn.Turn.{Turn}
+use Rattle.tta_check.specs.declared.values.ValueSet.{ValueSet}
+use Rattle.tta_check.specs.declared.values.ValueSet.TheVariants.{Nothing, One, Two}
+use Rattle.tta_check.specs.declared.point.Under.{Under as KeptUnder}
+use Rattle.tta_check.specs.declared.state.Kept.{Kept}
+use Rattle.tta_check.specs.declared.state.Port.{Port}
+use Rattle.tta_check.specs.declared.state.AbstractState.{AbstractState}
+use Rattle.tta_check.specs.declared.guard_value.GuardValue.{GuardValue}
+use Rattle.tta_check.specs.declared.location.Location.{Location}
+use Rattle.tta_check.specs.declared.transfer.Transfer.{Transfer}
 use Rattle.tta_check.specs.declared.verdict.Verdict.{Verdict}
 use Rattle.tta_check.specs.declared.verdict.Verdict.TheVariants.{Unsafe}
-use Rattle.tta_check.specs.declared.visit.Onward.{Onward}
+use Rattle.tta_check.specs.declared.visit.Successor.{Successor}
 use Rattle.tta_check.specs.Walks.{Word, takes_address}
 use Rattle.tta_check.specs.Facts.{origin_of, same_word, goes_into}
 use Rattle.tta_check.specs.Causes.{code_by}
 use Rattle.tta_check.specs.Codes.{code_in}
-use Rattle.tta_check.specs.Rows.{place_of, tells, covers}
+use Rattle.tta_check.specs.States.{place_of, tells, covers}
 use Rattle.tta_check.specs.Steps.{words_of, write_into}
-use Rattle.tta_check.specs.Turns.{kept_after, ports_after, IsAfter, is_listed, Lists}
+use Rattle.tta_check.specs.Transfers.{kept_after, ports_after, IsAfter, is_listed, Lists}
 use Rattle.tta_check.specs.Controls.{takes_control, controller, does, is_settled}
-use Rattle.tta_check.specs.Spots.{has_spot, HasAll}
-use Rattle.tta_check.specs.Aims.{only_word, aim_of}
-use Rattle.tta_check.specs.Going.{under_as, key_as}
-use Rattle.tta_check.specs.Visits.{turn_at, IsWay, end_of, GoesOn}
+use Rattle.tta_check.specs.Locations.{has_location, HasAll}
+use Rattle.tta_check.specs.JumpTargets.{only_word, jump_target_of}
+use Rattle.tta_check.specs.Going.{under_as, point_as}
+use Rattle.tta_check.specs.Visits.{transfer_at, IsWay, end_of, GoesOn}
 use Rattle.tta_check.proofs.Gives.{In, none_in}
 use Rattle.tta_check.proofs.Cells.{none_write, same_self}
 use Rattle.tta_check.proofs.Witnessed.{Witnessed}
 use Rattle.tta_check.proofs.Lone.{OnceWhere}
 use Rattle.tta_check.proofs.Events.{once_control}
-use Rattle.tta_check.proofs.AfterRow.{is_after}
+use Rattle.tta_check.proofs.AfterState.{is_after}
 use Rattle.tta_check.proofs.Slots.{code_slots}
-use Rattle.tta_check.proofs.Turning.{turn_witnessed, code_alike}
-use Rattle.tta_check.proofs.Aims.{is_only, OnlyWord, only_single, only_are_single}
-use Rattle.tta_check.proofs.Proper.{AreProper, turned_proper}
+use Rattle.tta_check.proofs.Transferring.{transfer_witnessed, code_alike}
+use Rattle.tta_check.proofs.JumpTargets.{is_only, OnlyWord, only_single, only_are_single}
+use Rattle.tta_check.proofs.Proper.{AreProper, transferred_proper}
 
 -- what is kept where walks stand is right: each fact that is told has a walk; it is of these places and of all units, and two words differ
-pub record IsEntry (m : Machine) (code : Code) (spots : List Spot) (o : Onward) : Type 0 where
-  pub witnessed : Witnessed (covers o.row) (tells o.row) m code (key_as o.key)
-  pub places : map (λ k. k.at) o.row.cells.items ≡ spots
-  pub units : length o.row.ports.items ≡ length m.units
-  pub proper : AreProper o.row.cells.items
+pub record IsEntry (m : Machine) (code : Code) (locations : List Location) (o : Successor) : Type 0 where
+  pub witnessed : Witnessed (covers o.state) (tells o.state) m code (point_as o.point)
+  pub places : map (λ k. k.at) o.state.cells.items ≡ locations
+  pub units : length o.state.ports.items ≡ length m.units
+  pub proper : AreProper o.state.cells.items
 
 -- an instruction that is carried out
-pub record IsThere (m : Machine) (code : Code) (spots : List Spot) (i : Instruction) (o : Onward) : Type 0 where
+pub record IsThere (m : Machine) (code : Code) (locations : List Location) (i : Instruction) (o : Successor) : Type 0 where
   pub rules : IsMachine m
-  pub there : slice_get code.words o.key.address ≡ Some i
+  pub there : slice_get code.words o.point.address ≡ Some i
   pub legal : is_legal m i ≡ true
-  pub has : HasAll (effects_of m i) spots
+  pub has : HasAll (effects_of m i) locations
 
 -- ---- the control move
 
@@ -82,18 +82,18 @@ address_control (Imm u i) h = absurd cc
 address_control (Operand u) h = absurd cc
 address_control (Trigger u o) h = absurd cc
 
-only_is_word : (h : Held) (w : Word) → only_word h ≡ Some w → is_only w h ≡ true
+only_is_word : (h : ValueSet) (w : Word) → only_word h ≡ Some w → is_only w h ≡ true
 only_is_word Nothing w h = refl
 only_is_word (One a) w h = ap (same_word a) (same h) ∙ same_self a where
   same : Some a ≡ Some w → w ≡ a
   same h = cc
 only_is_word (Two a b) w h = absurd cc
 
-aim_only : (r : Row) (es : List Effect) (w : Word) → OnceWhere takes_control es → aim_of r.cells.items (controller es) ≡ Some w → OnlyWord r es w
-aim_only r es w once aim e item takes =
+jump_target_only : (r : AbstractState) (es : List Effect) (w : Word) → OnceWhere takes_control es → jump_target_of r.cells.items (controller es) ≡ Some w → OnlyWord r es w
+jump_target_only r es w once jump_target e item takes =
     only_is_word (words_of r.cells.items (origin_of e.src)) w
-    (sym (ap (aim_of r.cells.items) (controller_is es e once item (address_control e.target takes))
-    ∙ ap (λ b. if b then only_word (words_of r.cells.items (origin_of e.src)) else Some None) takes) ∙ aim)
+    (sym (ap (jump_target_of r.cells.items) (controller_is es e once item (address_control e.target takes))
+    ∙ ap (λ b. if b then only_word (words_of r.cells.items (origin_of e.src)) else Some None) takes) ∙ jump_target)
 
 -- ---- no code
 
@@ -101,33 +101,33 @@ under_some : (u : Option KeptUnder) → is_some (option_map under_as u) ≡ is_s
 under_some None = refl
 under_some (Some u) = refl
 
-pub told_code : (m : Machine) (i : Instruction) (at : Onward) → code_by (tells at.row) m (is_some (key_as at.key).under) (effects_of m i) ≡ code_in (tells at.row) m (is_some at.key.under) i
-told_code m i at = ap (λ b. code_by (tells at.row) m b (effects_of m i)) (under_some at.key.under) ∙ code_slots (tells at.row) m (is_some at.key.under) i
+pub told_code : (m : Machine) (i : Instruction) (at : Successor) → code_by (tells at.state) m (is_some (point_as at.point).under) (effects_of m i) ≡ code_in (tells at.state) m (is_some at.point.under) i
+told_code m i at = ap (λ b. code_by (tells at.state) m b (effects_of m i)) (under_some at.point.under) ∙ code_slots (tells at.state) m (is_some at.point.under) i
 
-pub no_code_in : (m : Machine) (i : Instruction) (at : Onward) → end_of m i at ≡ None → code_in (tells at.row) m (is_some at.key.under) i ≡ None
-no_code_in m i at h = on (code_in (tells at.row) m (is_some at.key.under) i) (option_map_or (λ word. None) (aim_of at.row.cells.items (controller (effects_of m i))) (Some (Unsafe 80 at.key.address))) h where
-  on : (o : Option ℕ) (v : Option Verdict) → option_map_or (λ code. Some (Unsafe code at.key.address)) o v ≡ None → o ≡ None
+pub no_code_in : (m : Machine) (i : Instruction) (at : Successor) → end_of m i at ≡ None → code_in (tells at.state) m (is_some at.point.under) i ≡ None
+no_code_in m i at h = on (code_in (tells at.state) m (is_some at.point.under) i) (option_map_or (λ word. None) (jump_target_of at.state.cells.items (controller (effects_of m i))) (Some (Unsafe 80 at.point.address))) h where
+  on : (o : Option ℕ) (v : Option Verdict) → option_map_or (λ code. Some (Unsafe code at.point.address)) o v ≡ None → o ≡ None
   on None v h = refl
   on (Some c) v h = absurd cc
 
-pub only_of : (m : Machine) (i : Instruction) (at : Onward) (acts stays : Option Onward) → is_legal m i ≡ true → (g : GoesOn m i at acts stays) → OnlyWord at.row (effects_of m i) g.word
-only_of m i at acts stays legal g = aim_only at.row (effects_of m i) g.word (once_control m i legal) g.aim
+pub only_of : (m : Machine) (i : Instruction) (at : Successor) (acts stays : Option Successor) → is_legal m i ≡ true → (g : GoesOn m i at acts stays) → OnlyWord at.state (effects_of m i) g.word
+only_of m i at acts stays legal g = jump_target_only at.state (effects_of m i) g.word (once_control m i legal) g.jump_target
 
-pub free_of : (m : Machine) (i : Instruction) (at : Onward) (acts stays : Option Onward) → is_legal m i ≡ true → GoesOn m i at acts stays → code_by (covers at.row) m (is_some (key_as at.key).under) (effects_of m i) ≡ None
+pub free_of : (m : Machine) (i : Instruction) (at : Successor) (acts stays : Option Successor) → is_legal m i ≡ true → GoesOn m i at acts stays → code_by (covers at.state) m (is_some (point_as at.point).under) (effects_of m i) ≡ None
 free_of m i at acts stays legal g =
-    sym (code_alike at.row m (is_some (key_as at.key).under) (effects_of m i) (only_are_single at.row (effects_of m i) g.word (only_of m i at acts stays legal g)))
+    sym (code_alike at.state m (is_some (point_as at.point).under) (effects_of m i) (only_are_single at.state (effects_of m i) g.word (only_of m i at acts stays legal g)))
     ∙ told_code m i at ∙ no_code_in m i at g.no_end
 
--- ---- rows after an instruction
+-- ---- abstract states after an instruction
 
-listed_spot : (ks : List Kept) (p : Place) → has_spot (map (λ k. k.at) ks) p ≡ is_listed ks p
-listed_spot [] p = refl
-listed_spot (k ∷ ks) p = ap (λ b. same_place (place_of k.at) p || b) (listed_spot ks p)
+listed_location : (ks : List Kept) (p : Place) → has_location (map (λ k. k.at) ks) p ≡ is_listed ks p
+listed_location [] p = refl
+listed_location (k ∷ ks) p = ap (λ b. same_place (place_of k.at) p || b) (listed_location ks p)
 
-lists_of : (m : Machine) (back : ℕ) (es : List Effect) (spots : List Spot) (ks : List Kept) → HasAll es spots → map (λ k. k.at) ks ≡ spots → Lists m back es ks
-lists_of m back es spots ks has is p none = on (list_any (λ x. goes_into p x.target) es) refl where
+lists_of : (m : Machine) (back : ℕ) (es : List Effect) (locations : List Location) (ks : List Kept) → HasAll es locations → map (λ k. k.at) ks ≡ locations → Lists m back es ks
+lists_of m back es locations ks has is p none = on (list_any (λ x. goes_into p x.target) es) refl where
   on : (b : Bool) → list_any (λ x. goes_into p x.target) es ≡ b → write_into m back p es ≡ None
-  on true h = absurd (let a = has p h in let b = ap (λ ss. has_spot ss p) is in let c = listed_spot ks p in let d = sym c ∙ b ∙ a in cc)
+  on true h = absurd (let a = has p h in let b = ap (λ ss. has_location ss p) is in let c = listed_location ks p in let d = sym c ∙ b ∙ a in cc)
   on false h = (none_write m back [] p es h).1
 
 no_more : {A B : Type 0} (xs : List A) (ys : List B) (k : ℕ) → length xs ≡ length ys → slice_get xs k ≡ None → slice_get ys k ≡ None
@@ -137,30 +137,30 @@ no_more (x ∷ xs) [] k e h = refl
 no_more (x ∷ xs) (y ∷ ys) zero e h = absurd cc
 no_more (x ∷ xs) (y ∷ ys) (suc k) e h = no_more xs ys k (omega arith) h
 
-pub after_of : (m : Machine) (code : Code) (spots : List Spot) (i : Instruction) (at x : Onward) (sense : Option Sense) (event : Option (Kind × ℕ)) → IsEntry m code spots at → IsThere m code spots i at
-    → IsWay m i at sense event (Some x) → IsAfter m (turn_at m (key_as at.key) sense) (effects_of m i) at.row x.row
-after_of m code spots i at x sense event entry t way =
-    is_after m i (turn_at m (key_as at.key) sense) at.row x.row (lists_of m _ (effects_of m i) spots at.row.cells.items t.has entry.places)
-    (λ unit. no_more at.row.ports.items m.units unit entry.units) (way.cells x refl) (way.ports x refl)
+pub after_of : (m : Machine) (code : Code) (locations : List Location) (i : Instruction) (at x : Successor) (guard_value : Option GuardValue) (event : Option (Kind × ℕ)) → IsEntry m code locations at → IsThere m code locations i at
+    → IsWay m i at guard_value event (Some x) → IsAfter m (transfer_at m (point_as at.point) guard_value) (effects_of m i) at.state x.state
+after_of m code locations i at x guard_value event entry t way =
+    is_after m i (transfer_at m (point_as at.point) guard_value) at.state x.state (lists_of m _ (effects_of m i) locations at.state.cells.items t.has entry.places)
+    (λ unit. no_more at.state.ports.items m.units unit entry.units) (way.cells x refl) (way.ports x refl)
 
-places_after : (m : Machine) (i : Instruction) (turn : Turn) (ks rest : List Kept) → map (λ k. k.at) (map (kept_after m i turn ks) rest) ≡ map (λ k. k.at) rest
-places_after m i turn ks [] = refl
-places_after m i turn ks (k ∷ rest) = ap (λ xs. k.at ∷ xs) (places_after m i turn ks rest)
+places_after : (m : Machine) (i : Instruction) (how : Transfer) (ks rest : List Kept) → map (λ k. k.at) (map (kept_after m i how ks) rest) ≡ map (λ k. k.at) rest
+places_after m i how ks [] = refl
+places_after m i how ks (k ∷ rest) = ap (λ xs. k.at ∷ xs) (places_after m i how ks rest)
 
-pub count_after : (m : Machine) (i : Instruction) (turn : Turn) (n : ℕ) (ps : List Port) → length (ports_after m i turn n ps) ≡ length ps
-count_after m i turn n [] = refl
-count_after m i turn n (p ∷ ps) = let e = count_after m i turn (n + 1) ps in omega arith
+pub count_after : (m : Machine) (i : Instruction) (how : Transfer) (n : ℕ) (ps : List Port) → length (ports_after m i how n ps) ≡ length ps
+count_after m i how n [] = refl
+count_after m i how n (p ∷ ps) = let e = count_after m i how (n + 1) ps in omega arith
 
-pub way_entry : (m : Machine) (code : Code) (spots : List Spot) (i : Instruction) (at x : Onward) (acts stays : Option Onward) (sense : Option Sense) (does_act : Bool) → IsEntry m code spots at → IsThere m code spots i at
-    → (g : GoesOn m i at acts stays) → is_settled (controller (effects_of m i)) sense does_act ≡ true → IsWay m i at sense (does g.word (controller (effects_of m i)) does_act) (Some x) → IsEntry m code spots x
-way_entry m code spots i at x acts stays sense does_act entry t g is way =
-    let turn = turn_at m (key_as at.key) sense in
+pub way_entry : (m : Machine) (code : Code) (locations : List Location) (i : Instruction) (at x : Successor) (acts stays : Option Successor) (guard_value : Option GuardValue) (does_act : Bool) → IsEntry m code locations at → IsThere m code locations i at
+    → (g : GoesOn m i at acts stays) → is_settled (controller (effects_of m i)) guard_value does_act ≡ true → IsWay m i at guard_value (does g.word (controller (effects_of m i)) does_act) (Some x) → IsEntry m code locations x
+way_entry m code locations i at x acts stays guard_value does_act entry t g is way =
+    let how = transfer_at m (point_as at.point) guard_value in
     record {
-      witnessed = turn_witnessed m code (key_as at.key) (key_as x.key) i turn does_act g.word at.row x.row t.rules
-          (record { there = t.there; legal = t.legal; back = refl; settled = is; leads = sym way.key })
-          entry.witnessed (free_of m i at acts stays t.legal g) (only_single at.row (effects_of m i) g.word (only_of m i at acts stays t.legal g))
-          (after_of m code spots i at x sense (does g.word (controller (effects_of m i)) does_act) entry t way);
-      places = ap (map (λ k. k.at)) (way.cells x refl) ∙ places_after m i turn at.row.cells.items at.row.cells.items ∙ entry.places;
-      units = ap length (way.ports x refl) ∙ count_after m i turn 0 at.row.ports.items ∙ entry.units;
-      proper = subst AreProper (sym (way.cells x refl)) (turned_proper m i turn at.row.cells.items at.row.cells.items entry.proper entry.proper);
+      witnessed = transfer_witnessed m code (point_as at.point) (point_as x.point) i how does_act g.word at.state x.state t.rules
+          (record { there = t.there; legal = t.legal; back = refl; settled = is; leads = sym way.point })
+          entry.witnessed (free_of m i at acts stays t.legal g) (only_single at.state (effects_of m i) g.word (only_of m i at acts stays t.legal g))
+          (after_of m code locations i at x guard_value (does g.word (controller (effects_of m i)) does_act) entry t way);
+      places = ap (map (λ k. k.at)) (way.cells x refl) ∙ places_after m i how at.state.cells.items at.state.cells.items ∙ entry.places;
+      units = ap length (way.ports x refl) ∙ count_after m i how 0 at.state.ports.items ∙ entry.units;
+      proper = subst AreProper (sym (way.cells x refl)) (transferred_proper m i how at.state.cells.items at.state.cells.items entry.proper entry.proper);
     }

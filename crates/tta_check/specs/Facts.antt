@@ -26,8 +26,8 @@ same_word a b = false
 -- whether a fact holds of a walk
 abbrev pub is_fact : Walk → Fact → Bool
 is_fact w Here = true
-is_fact w (Unset p) = is_none (held_at w.held p)
-is_fact w (Holds p x) = option_map_or (same_word x) (held_at w.held p) false
+is_fact w (Unset p) = is_none (held_at w.values p)
+is_fact w (Holds p x) = option_map_or (same_word x) (held_at w.values p) false
 is_fact w (Early unit wait) = not (list_any (λ d. d.unit == unit && nat_le d.time (w.cycle + wait)) w.dues)
 is_fact w (Late unit wait) = list_any (λ d. d.unit == unit && d.time == w.cycle + wait) w.dues
 

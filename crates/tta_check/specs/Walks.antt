@@ -24,7 +24,7 @@ pub record Due : Type 0 where
 -- what was written into each place, the newest first; the dues of all results, past and to come; the address of the next
 -- instruction, how many cycles were made, and the control move under way
 pub record Walk : Type 0 where
-  pub held : List (Place × Word)
+  pub values : List (Place × Word)
   pub dues : List Due
   pub address : ℕ
   pub cycle : ℕ
@@ -37,10 +37,10 @@ held_at (h ∷ hs) p = if same_place h.0 p then Some h.1 else held_at hs p
 
 -- the word of a source that is known: an immediate, or what a place keeps
 abbrev pub known : Walk → Source → Word
-known w (source.Reg file index) = option_and_then (λ word. word) (held_at w.held (KeptReg file index))
-known w (source.Imm unit index) = option_and_then (λ word. word) (held_at w.held (KeptImm unit index))
+known w (source.Reg file index) = option_and_then (λ word. word) (held_at w.values (KeptReg file index))
+known w (source.Imm unit index) = option_and_then (λ word. word) (held_at w.values (KeptImm unit index))
 known w (source.Shown unit) = None
-known w source.Ra = option_and_then (λ word. word) (held_at w.held KeptRa)
+known w source.Ra = option_and_then (λ word. word) (held_at w.values KeptRa)
 known w (source.Value word) = Some word
 
 -- ---- choices
@@ -73,7 +73,7 @@ result_at d = record { unit = d.unit; due = d.time; value = 0 }
 -- under way does
 abbrev pub as_state : Choice → Walk → State
 as_state choice w = record {
-  written = map (found choice) w.held;
+  written = map (found choice) w.values;
   started = map result_at w.dues;
   memory = [];
   frame = [];
@@ -204,7 +204,7 @@ abbrev pub walks_on : Machine → Choice → Walk → Instruction → Option Wal
 walks_on m choice w i =
     let s = goes_on m choice w i in
     unless_over (record {
-      held = filter_map (holds m choice w) (effects_of m i) ++ w.held;
+      values = filter_map (holds m choice w) (effects_of m i) ++ w.values;
       dues = filter_map (due_of w) (starts m choice w i) ++ w.dues;
       address = s.pc;
       cycle = s.cycle;
@@ -221,7 +221,7 @@ after m code choice w =
 
 -- at first nothing is written, due or under way
 abbrev pub first : Walk
-first = record { held = []; dues = []; address = 0; cycle = 0; pending = None }
+first = record { values = []; dues = []; address = 0; cycle = 0; pending = None }
 
 -- the walk after these choices, the last one first; none where a walk with them ended before
 abbrev pub walk : Machine → Code → List Choice → Option Walk

@@ -1,36 +1,40 @@
-//! The first row.
+//! The first abstract state.
 
 ghost use Rattle.std.specs.Prelude.{◌≡◌, map, replicate, IfOk};
-ghost use Rattle.tta_check.specs.Rows.{idle};
-ghost use Rattle.tta_check.specs.Joined.{unwritten_at, IsFirst};
+ghost use Rattle.tta_check.specs.States.{idle};
+ghost use Rattle.tta_check.specs.Joins.{unwritten_at, IsFirst};
 
-use crate::held::Held;
+use crate::location::Location;
 use crate::packed::Packed;
-use crate::row::{Cell, Port, Row};
-use crate::spot::Spot;
+use crate::state::{AbstractState, Cell, Port};
+use crate::values::ValueSet;
 use std::alloc::{AllocError, Global};
 
-/// What is kept of spots that no walk has written.
-fn unwritten(alloc: Global, spots: &[Spot]) -> Result<Vec<Packed>, AllocError>
-    ensures { IfOk result (λ v. v.items ≡ map unwritten_at spots.now) }
+/// What is kept of locations that no walk has written.
+fn unwritten(alloc: Global, locations: &[Location]) -> Result<Vec<Packed>, AllocError>
+    ensures { IfOk result (λ v. v.items ≡ map unwritten_at locations.now) }
 {
-    let mut list = Vec::with_capacity(alloc, spots.len())?;
+    let mut list = Vec::with_capacity(alloc, locations.len())?;
     let nothing = Cell {
         unset: true,
-        held: Held::Nothing,
+        values: ValueSet::Nothing,
     };
-    for spot in spots {
-        list.push(Packed::of(*spot, nothing))?;
+    for location in locations {
+        list.push(Packed::of(*location, nothing))?;
     }
     Ok(list)
 }
 
-/// The first row, of these spots and so many units.
-pub fn first_row(alloc: Global, spots: &[Spot], units: usize) -> Result<Row, AllocError>
-    ensures { IfOk result (λ r. IsFirst spots.now units r) }
+/// The first abstract state, of these locations and so many units.
+pub fn first_state(
+    alloc: Global,
+    locations: &[Location],
+    units: usize,
+) -> Result<AbstractState, AllocError>
+    ensures { IfOk result (λ r. IsFirst locations.now units r) }
 {
-    Ok(Row {
-        cells: unwritten(alloc, spots)?,
+    Ok(AbstractState {
+        cells: unwritten(alloc, locations)?,
         ports: vec![in alloc; Port { early: 16, late: 0 }; units]?,
     })
 }

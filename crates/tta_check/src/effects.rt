@@ -8,24 +8,24 @@ ghost use Rattle.tta_arch.specs.Effects.{op_at, has_result, target_of};
 ghost use Rattle.tta_code.specs.Cycle.{effect_of, long_effects, effects_of};
 ghost use Rattle.tta_check.specs.Facts.{starts_on};
 ghost use Rattle.tta_check.specs.Controls.{takes_control, controller};
-ghost use Rattle.tta_check.specs.Rows.{place_of};
+ghost use Rattle.tta_check.specs.States.{place_of};
 ghost use Rattle.tta_check.specs.Steps.{write_into, start_on, as_write, as_start};
 
-use crate::spot::{Spot, same_spot};
+use crate::location::{Location, same_location};
 use crate::start::Start;
 use crate::write::{Origin, Write, goes_into, origin_in};
 use tta_arch::{Dest, Machine, Op, UnitOp};
 use tta_code::{Instruction, Long, Move};
 use tta_list::entry_at;
 
-/// The write into a spot that some moves make.
-fn move_into(m: &Machine, back: u32, moves: &[Option<Move>], spot: Spot) -> Option<Write>
-    ensures { option_map as_write result ≡ write_into m.now back (place_of spot)
+/// The write into a location that some moves make.
+fn move_into(m: &Machine, back: u32, moves: &[Option<Move>], location: Location) -> Option<Write>
+    ensures { option_map as_write result ≡ write_into m.now back (place_of location)
         (map effect_of (filter_map (λ o. o) moves.now)) }
 {
     for slot in moves {
         if let Some(v) = slot {
-            if goes_into(v.dst, spot) {
+            if goes_into(v.dst, location) {
                 return Some(Write {
                     guard: v.guard,
                     origin: origin_in(m, back, v.src, v.dst),
@@ -36,9 +36,9 @@ fn move_into(m: &Machine, back: u32, moves: &[Option<Move>], spot: Spot) -> Opti
     None
 }
 
-/// The write into a spot that a long immediate makes.
-fn long_into(m: &Machine, back: u32, long: Option<Long>, spot: Spot) -> Option<Write>
-    ensures { option_map as_write result ≡ write_into m.now back (place_of spot)
+/// The write into a location that a long immediate makes.
+fn long_into(m: &Machine, back: u32, long: Option<Long>, location: Location) -> Option<Write>
+    ensures { option_map as_write result ≡ write_into m.now back (place_of location)
         (long_effects m.now long) }
 {
     let Some(l) = long else {
@@ -47,11 +47,11 @@ fn long_into(m: &Machine, back: u32, long: Option<Long>, spot: Spot) -> Option<W
     match entry_at(m.templates.as_slice(), l.template) {
         None => None,
         Some(t) => {
-            let into = Spot::Imm {
+            let into = Location::Imm {
                 unit: t.imm,
                 index: t.reg,
             };
-            if same_spot(into, spot) {
+            if same_location(into, location) {
                 Some(Write {
                     guard: None,
                     origin: Origin::Fixed(Some(l.value)),
@@ -63,15 +63,15 @@ fn long_into(m: &Machine, back: u32, long: Option<Long>, spot: Spot) -> Option<W
     }
 }
 
-/// The write into a spot that an instruction makes.
+/// The write into a location that an instruction makes.
 #[tactic(auto, using(crate::proofs::Instructions::write_both))]
-pub fn write_into(m: &Machine, back: u32, i: &Instruction, spot: Spot) -> Option<Write>
-    ensures { option_map as_write result ≡ write_into m.now back (place_of spot)
+pub fn write_into(m: &Machine, back: u32, i: &Instruction, location: Location) -> Option<Write>
+    ensures { option_map as_write result ≡ write_into m.now back (place_of location)
         (effects_of m.now i.now) }
 {
-    match move_into(m, back, i.moves.as_slice(), spot) {
+    match move_into(m, back, i.moves.as_slice(), location) {
         Some(w) => Some(w),
-        None => long_into(m, back, i.long, spot),
+        None => long_into(m, back, i.long, location),
     }
 }
 

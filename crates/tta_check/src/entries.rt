@@ -3,26 +3,27 @@
 ghost use Rattle.std.specs.Prelude.{◌≡◌, ◌+◌, ◌*◌, ◌≤◌, ◌<◌, length, replicate, []};
 ghost use Rattle.std.specs.Prelude.{slice_get, Some, None, OnOk, IfOk};
 ghost use Rattle.std.specs.Option.{option_map};
-ghost use Rattle.tta_check.specs.Going.{under_as, key_as};
+ghost use Rattle.tta_check.specs.Going.{under_as, point_as};
 ghost use Rattle.tta_check.specs.Tables.{ago, place_at, Sets, Fits, FitsSome, FitsBoth};
 ghost use Rattle.tta_check.specs.Tables.{PutTo, PutSome, PutBoth, Grows};
 ghost use Rattle.tta_check.specs.Carries.{CanCarry, Carried};
 
-use crate::join::joined;
-use crate::key::{Key, Under, same_key};
-use crate::row::Row;
+use crate::join::join;
+use crate::measure::measure;
+use crate::point::{ProgramPoint, Under, same_point};
+use crate::state::AbstractState;
 use crate::verdict::Verdict;
-use crate::visit::{Onward, Outcome, visit};
-use crate::weigh::weight;
+use crate::visit::{Outcome, Successor, visit};
 use std::alloc::{AllocError, Global};
 use tta_arch::Machine;
 use tta_code::{Code, Instruction};
 
-/// The entries that are kept, and the places of those that wait: they are new, or have grown.
+/// The entries that are kept, by program point, and the worklist: the places of those that are new
+/// or have grown, and wait for their instruction.
 #[derive(Drop)]
 pub struct EntryTable {
-    pub entries: Vec<Option<Onward>>,
-    pub stack: Vec<usize>,
+    pub entries: Vec<Option<Successor>>,
+    pub worklist: Vec<usize>,
 }
 
 /// How many cycles ago the control move under way was made; 0 where there is none.
@@ -37,15 +38,15 @@ fn ago(delay: u8, under: Option<Under>) -> u32
 }
 
 /// The place of an entry.
-fn place_of(delay: u8, key: Key) -> usize
-    ensures { result ≡ place_at delay (key_as key) }
+fn place_of(delay: u8, point: ProgramPoint) -> usize
+    ensures { result ≡ place_at delay (point_as point) }
 {
-    let since = ago(delay, key.under) as usize;
-    key.address as usize * (usize::from(delay) + 1) + since
+    let since = ago(delay, point.under) as usize;
+    point.address as usize * (usize::from(delay) + 1) + since
 }
 
 /// An entry.
-fn entry_at(entries: &[Option<Onward>], place: usize) -> &Option<Onward>
+fn entry_at(entries: &[Option<Successor>], place: usize) -> &Option<Successor>
     requires { place < length entries.now }
     ensures { slice_get entries.now place ≡ Some result.now }
 {
@@ -60,15 +61,19 @@ fn word_at(words: &[Instruction], at: usize) -> &Instruction
     &words[at]
 }
 
-/// A row joined with another, where it grows by that.
-fn grown(alloc: Global, row: &Row, other: &Row) -> Result<Option<Row>, AllocError>
-    requires cells { length row.now.cells.items ≡ length other.now.cells.items }
-    requires ports { length row.now.ports.items ≡ length other.now.ports.items }
-    requires few { length row.now.ports.items ≤ 256 }
-    ensures { IfOk result (λ r. Grows row.now other.now r) }
+/// An abstract state joined with another, where it grows by that.
+fn grown(
+    alloc: Global,
+    state: &AbstractState,
+    other: &AbstractState,
+) -> Result<Option<AbstractState>, AllocError>
+    requires cells { length state.now.cells.items ≡ length other.now.cells.items }
+    requires ports { length state.now.ports.items ≡ length other.now.ports.items }
+    requires few { length state.now.ports.items ≤ 256 }
+    ensures { IfOk result (λ r. Grows state.now other.now r) }
 {
-    let both = joined(alloc, row, other)?;
-    if weight(&both) == weight(row) {
+    let both = join(alloc, state, other)?;
+    if measure(&both) == measure(state) {
         Ok(None)
     } else {
         Ok(Some(both))
@@ -81,7 +86,7 @@ impl EntryTable {
         requires { len ≤ 65536 }
         ensures entries { IfOk result (λ t. t.entries.items
             ≡ replicate (len * (delay + 1)) None) }
-        ensures stack { IfOk result (λ t. t.stack.items ≡ []) }
+        ensures worklist { IfOk result (λ t. t.worklist.items ≡ []) }
     {
         let count = len * (usize::from(delay) + 1);
         let mut entries = Vec::with_capacity(alloc, count)?;
@@ -90,17 +95,17 @@ impl EntryTable {
         }
         Ok(EntryTable {
             entries,
-            stack: Vec::new(alloc),
+            worklist: Vec::new(alloc),
         })
     }
 
     /// Puts an entry at a place, which waits.
-    fn set(&mut self, place: usize, onward: Onward) -> Result<(), AllocError>
+    fn set(&mut self, place: usize, successor: Successor) -> Result<(), AllocError>
         requires { place < length self.old.entries.items }
-        ensures { OnOk result (Sets place onward self.old self.new) }
+        ensures { OnOk result (Sets place successor self.old self.new) }
     {
-        self.entries[place] = Some(onward);
-        self.stack.push(place)?;
+        self.entries[place] = Some(successor);
+        self.worklist.push(place)?;
         Ok(())
     }
 
@@ -110,19 +115,19 @@ impl EntryTable {
         alloc: Global,
         delay: u8,
         len: usize,
-        onward: Onward,
+        successor: Successor,
     ) -> Result<Option<Verdict>, AllocError>
-        requires { Fits delay len onward self.old }
-        ensures { IfOk result (λ r. PutTo delay len onward self.old self.new r) }
+        requires { Fits delay len successor self.old }
+        ensures { IfOk result (λ r. PutTo delay len successor self.old self.new r) }
     {
-        if len <= onward.key.address as usize {
+        if len <= successor.point.address as usize {
             return Ok(Some(Verdict::Unsafe {
                 code: 65,
-                word: onward.key.address,
+                word: successor.point.address,
             }));
         }
-        let place = place_of(delay, onward.key);
-        let verdict = self.put_at(alloc, delay, len, place, onward)?;
+        let place = place_of(delay, successor.point);
+        let verdict = self.put_at(alloc, delay, len, place, successor)?;
         Ok(verdict)
     }
 
@@ -133,31 +138,31 @@ impl EntryTable {
         delay: u8,
         len: usize,
         place: usize,
-        onward: Onward,
+        successor: Successor,
     ) -> Result<Option<Verdict>, AllocError>
-        requires fits { Fits delay len onward self.old }
-        requires here { place ≡ place_at delay (key_as onward.key) }
+        requires fits { Fits delay len successor self.old }
+        requires here { place ≡ place_at delay (point_as successor.point) }
         requires there { place < length self.old.entries.items }
-        ensures { IfOk result (λ r. PutTo delay len onward self.old self.new r) }
+        ensures { IfOk result (λ r. PutTo delay len successor self.old self.new r) }
     {
         let Some(old) = entry_at(&self.entries, place) else {
-            self.set(place, onward)?;
+            self.set(place, successor)?;
             return Ok(None);
         };
-        if !same_key(old.key, onward.key) {
+        if !same_point(old.point, successor.point) {
             return Ok(Some(Verdict::Unsafe {
                 code: 80,
-                word: onward
-                    .key
+                word: successor
+                    .point
                     .address
-                    .saturating_sub(ago(delay, onward.key.under)),
+                    .saturating_sub(ago(delay, successor.point.under)),
             }));
         }
-        match grown(alloc, &old.row, &onward.row)? {
+        match grown(alloc, &old.state, &successor.state)? {
             None => Ok(None),
-            Some(row) => {
-                let key = onward.key;
-                self.set(place, Onward { key, row })?;
+            Some(state) => {
+                let point = successor.point;
+                self.set(place, Successor { point, state })?;
                 Ok(None)
             }
         }
@@ -169,12 +174,12 @@ impl EntryTable {
         alloc: Global,
         delay: u8,
         len: usize,
-        onward: Option<Onward>,
+        successor: Option<Successor>,
     ) -> Result<Option<Verdict>, AllocError>
-        requires { FitsSome delay len onward self.old }
-        ensures { IfOk result (λ r. PutSome delay len onward self.old self.new r) }
+        requires { FitsSome delay len successor self.old }
+        ensures { IfOk result (λ r. PutSome delay len successor self.old self.new r) }
     {
-        match onward {
+        match successor {
             None => Ok(None),
             Some(o) => {
                 let verdict = self.put(alloc, delay, len, o)?;
@@ -189,8 +194,8 @@ impl EntryTable {
         alloc: Global,
         delay: u8,
         len: usize,
-        acts: Option<Onward>,
-        stays: Option<Onward>,
+        acts: Option<Successor>,
+        stays: Option<Successor>,
     ) -> Result<Option<Verdict>, AllocError>
         requires { FitsBoth delay len acts stays self.old }
         ensures { IfOk result (λ r. PutBoth delay len acts stays self.old self.new r) }
@@ -219,7 +224,7 @@ impl EntryTable {
             return Ok(None);
         };
         let words = code.words.as_slice();
-        match visit(alloc, m, word_at(words, at.key.address as usize), at)? {
+        match visit(alloc, m, word_at(words, at.point.address as usize), at)? {
             Outcome::Ends(verdict) => Ok(Some(verdict)),
             Outcome::Goes { acts, stays } => {
                 let verdict = self.put_both(alloc, m.control.delay, words.len(), acts, stays)?;

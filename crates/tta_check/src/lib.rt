@@ -1,27 +1,27 @@
 //! Whether any run of code can fault.
 #![tactic(auto)]
 
-mod aim;
 mod begin;
 mod causes;
 mod effects;
 mod entries;
-mod held;
+mod guard_value;
 mod join;
-mod key;
+mod jump_target;
 mod laws;
+mod location;
+mod locations;
+mod measure;
 mod packed;
-mod row;
-mod sense;
+mod point;
 mod slot_causes;
 mod solve;
-mod spot;
-mod spots;
 mod start;
-mod turn;
+mod state;
+mod transfer;
+mod values;
 mod verdict;
 mod visit;
-mod weigh;
 mod write;
 
 pub use laws::safe_never_faults;

@@ -1,13 +1,14 @@
-//! A place with what may hold of it, in eleven bytes. Code of a large machine has a row of some hundred
-//! places for each of its addresses, so what a row keeps of a place is what `check` takes of memory.
+//! A place with what may hold of it, in eleven bytes. Code of a large machine has an abstract state
+//! of some hundred places for each of its addresses, so what it keeps of a place is what `check`
+//! takes of memory.
 
 ghost use Rattle.std.specs.Prelude.{◌≡◌, ◌==◌, ◌<◌, ◌/◌, ◌%◌};
-ghost use Rattle.tta_check.specs.Packed.{kind_of, owner_of, index_of, spot_by};
-ghost use Rattle.tta_check.specs.Packed.{shape_of, first_of, second_of, known_or_zero, held_by};
+ghost use Rattle.tta_check.specs.Packed.{kind_of, owner_of, index_of, location_by};
+ghost use Rattle.tta_check.specs.Packed.{shape_of, first_of, second_of, known_or_zero, values_by};
 
-use crate::held::Held;
-use crate::row::Cell;
-use crate::spot::Spot;
+use crate::location::Location;
+use crate::state::Cell;
+use crate::values::ValueSet;
 use std::marker::Model;
 
 /// Where the parts of a tag begin: the shape of the words comes first, then whether the place may be
@@ -28,7 +29,7 @@ pub struct Packed {
 
 impl Model for Packed {
     ghost use Rattle.std.specs.Prelude.{◌==◌, ◌/◌, ◌%◌};
-    ghost use Rattle.tta_check.specs.declared.row.Kept.{Kept};
+    ghost use Rattle.tta_check.specs.declared.state.Kept.{Kept};
     ghost use Rattle.tta_check.specs.Packed.{kept_by};
 
     ghost Value = { Kept };
@@ -37,68 +38,68 @@ impl Model for Packed {
         kept_by (p.tag / 16) (p.tag / 8 % 2 == 1) (p.tag % 8) p.owner p.index p.one p.two };
 }
 
-/// The kind of a spot, as a number.
-fn kind_of(spot: Spot) -> u8
-    ensures value { result ≡ kind_of spot }
+/// The kind of a location, as a number.
+fn kind_of(location: Location) -> u8
+    ensures value { result ≡ kind_of location }
     ensures few { result < 4 }
 {
-    match spot {
-        Spot::Reg { .. } => 0,
-        Spot::Imm { .. } => 1,
-        Spot::Operand { .. } => 2,
-        Spot::Ra => 3,
+    match location {
+        Location::Reg { .. } => 0,
+        Location::Imm { .. } => 1,
+        Location::Operand { .. } => 2,
+        Location::Ra => 3,
     }
 }
 
-/// The file or unit that a spot belongs to.
-fn owner_of(spot: Spot) -> u8
-    ensures { result ≡ owner_of spot }
+/// The file or unit that a location belongs to.
+fn owner_of(location: Location) -> u8
+    ensures { result ≡ owner_of location }
 {
-    match spot {
-        Spot::Reg { file, .. } => file,
-        Spot::Imm { unit, .. } | Spot::Operand { unit } => unit,
-        Spot::Ra => 0,
+    match location {
+        Location::Reg { file, .. } => file,
+        Location::Imm { unit, .. } | Location::Operand { unit } => unit,
+        Location::Ra => 0,
     }
 }
 
-/// The number of a spot in its file or unit.
-fn index_of(spot: Spot) -> u8
-    ensures { result ≡ index_of spot }
+/// The number of a location in its file or unit.
+fn index_of(location: Location) -> u8
+    ensures { result ≡ index_of location }
 {
-    match spot {
-        Spot::Reg { index, .. } | Spot::Imm { index, .. } => index,
-        Spot::Operand { .. } | Spot::Ra => 0,
+    match location {
+        Location::Reg { index, .. } | Location::Imm { index, .. } => index,
+        Location::Operand { .. } | Location::Ra => 0,
     }
 }
 
-/// The spot of these numbers.
-fn spot_by(kind: u8, owner: u8, index: u8) -> Spot
-    ensures { result ≡ spot_by kind owner index }
+/// The location of these numbers.
+fn location_by(kind: u8, owner: u8, index: u8) -> Location
+    ensures { result ≡ location_by kind owner index }
 {
     if kind == 0 {
-        Spot::Reg { file: owner, index }
+        Location::Reg { file: owner, index }
     } else if kind == 1 {
-        Spot::Imm { unit: owner, index }
+        Location::Imm { unit: owner, index }
     } else if kind == 2 {
-        Spot::Operand { unit: owner }
+        Location::Operand { unit: owner }
     } else {
-        Spot::Ra
+        Location::Ra
     }
 }
 
 /// How many words there are and which of them are known, as a number.
-fn shape_of(held: Held) -> u8
-    ensures value { result ≡ shape_of held }
+fn shape_of(values: ValueSet) -> u8
+    ensures value { result ≡ shape_of values }
     ensures few { result < 7 }
 {
-    match held {
-        Held::Nothing => 0,
-        Held::One(None) => 1,
-        Held::One(Some(_)) => 2,
-        Held::Two(None, None) => 3,
-        Held::Two(None, Some(_)) => 4,
-        Held::Two(Some(_), None) => 5,
-        Held::Two(Some(_), Some(_)) => 6,
+    match values {
+        ValueSet::Nothing => 0,
+        ValueSet::One(None) => 1,
+        ValueSet::One(Some(_)) => 2,
+        ValueSet::Two(None, None) => 3,
+        ValueSet::Two(None, Some(_)) => 4,
+        ValueSet::Two(Some(_), None) => 5,
+        ValueSet::Two(Some(_), Some(_)) => 6,
     }
 }
 
@@ -113,76 +114,76 @@ fn known_or_zero(word: Option<u32>) -> u32
 }
 
 /// The first word, 0 where there is none or it is not known.
-fn first_of(held: Held) -> u32
-    ensures { result ≡ first_of held }
+fn first_of(values: ValueSet) -> u32
+    ensures { result ≡ first_of values }
 {
-    match held {
-        Held::Nothing => 0,
-        Held::One(a) | Held::Two(a, _) => known_or_zero(a),
+    match values {
+        ValueSet::Nothing => 0,
+        ValueSet::One(a) | ValueSet::Two(a, _) => known_or_zero(a),
     }
 }
 
 /// The second word, 0 where there is none or it is not known.
-fn second_of(held: Held) -> u32
-    ensures { result ≡ second_of held }
+fn second_of(values: ValueSet) -> u32
+    ensures { result ≡ second_of values }
 {
-    match held {
-        Held::Nothing | Held::One(_) => 0,
-        Held::Two(_, b) => known_or_zero(b),
+    match values {
+        ValueSet::Nothing | ValueSet::One(_) => 0,
+        ValueSet::Two(_, b) => known_or_zero(b),
     }
 }
 
 /// The words of these numbers.
-fn held_by(shape: u8, a: u32, b: u32) -> Held
-    ensures { result ≡ held_by shape a b }
+fn values_by(shape: u8, a: u32, b: u32) -> ValueSet
+    ensures { result ≡ values_by shape a b }
 {
     if shape == 0 {
-        Held::Nothing
+        ValueSet::Nothing
     } else if shape == 1 {
-        Held::One(None)
+        ValueSet::One(None)
     } else if shape == 2 {
-        Held::One(Some(a))
+        ValueSet::One(Some(a))
     } else if shape == 3 {
-        Held::Two(None, None)
+        ValueSet::Two(None, None)
     } else if shape == 4 {
-        Held::Two(None, Some(b))
+        ValueSet::Two(None, Some(b))
     } else if shape == 5 {
-        Held::Two(Some(a), None)
+        ValueSet::Two(Some(a), None)
     } else {
-        Held::Two(Some(a), Some(b))
+        ValueSet::Two(Some(a), Some(b))
     }
 }
 
 /// The tag of a place with what may hold of it.
-fn tag_of(at: Spot, cell: Cell) -> u8
+fn tag_of(at: Location, cell: Cell) -> u8
     ensures kind { result / 16 ≡ kind_of at }
     ensures unset { (result / 8 % 2 == 1) ≡ cell.unset }
-    ensures shape { result % 8 ≡ shape_of cell.held }
+    ensures shape { result % 8 ≡ shape_of cell.values }
 {
     let unset = if cell.unset { UNSET } else { 0 };
-    kind_of(at) * KIND + unset + shape_of(cell.held)
+    kind_of(at) * KIND + unset + shape_of(cell.values)
 }
 
 impl Packed {
     /// A place with what may hold of it.
     #[tactic(auto, using(crate::proofs::Packing::unpacked))]
-    pub fn of(at: Spot, cell: Cell) -> Packed
+    pub fn of(at: Location, cell: Cell) -> Packed
         ensures { result ≡ record { at = at; cell = cell } }
     {
         Packed {
             tag: tag_of(at, cell),
             owner: owner_of(at),
             index: index_of(at),
-            one: first_of(cell.held).to_le_bytes(),
-            two: second_of(cell.held).to_le_bytes(),
+            one: first_of(cell.values).to_le_bytes(),
+            two: second_of(cell.values).to_le_bytes(),
         }
     }
 
     /// The place.
-    pub fn spot(&self) -> Spot
+    pub fn location(&self) -> Location
         ensures { result ≡ self.now.at }
     {
-        spot_by(self.tag / KIND, self.owner, self.index)
+        location_by(self.tag / KIND, self.owner, self.index)
     }
 
     /// What may hold of it.
@@ -193,7 +194,7 @@ impl Packed {
         let two = u32::from_le_bytes(self.two);
         Cell {
             unset: self.tag / UNSET % 2 == 1,
-            held: held_by(self.tag % UNSET, one, two),
+            values: values_by(self.tag % UNSET, one, two),
         }
     }
 }

@@ -1,4 +1,4 @@
-//! What one move may lack or meet, by the row that stands before it.
+//! What one move may lack or meet, by the abstract state that stands before it.
 
 ghost use Rattle.std.specs.Prelude.{◌≡◌, None, false};
 ghost use Rattle.std.specs.Option.{option_map_or};
@@ -9,27 +9,27 @@ ghost use Rattle.tta_code.specs.Cycle.{effects_of};
 ghost use Rattle.tta_check.specs.Facts.{Unset, Early, Late, gives, origin_of};
 ghost use Rattle.tta_check.specs.Causes.{unset_guard, unset_source, unset_port, unset_operand};
 ghost use Rattle.tta_check.specs.Causes.{wants, covers, clash, delayed, unknown};
-ghost use Rattle.tta_check.specs.Rows.{place_of, tells, tells_word};
+ghost use Rattle.tta_check.specs.States.{place_of, tells, tells_word};
 ghost use Rattle.tta_check.specs.Codes.{in_slot, gives_in};
 
 use crate::effects::op_at;
-use crate::held::{Held, same_word};
-use crate::row::{Row, cell_of, port_of};
-use crate::spot::Spot;
+use crate::location::Location;
+use crate::state::{AbstractState, cell_of, port_of};
+use crate::values::{ValueSet, same_word};
 use crate::write::goes_into;
 use tta_arch::{Dest, GuardRef, Machine, Source};
 use tta_code::{Instruction, Move};
 
 /// Whether a place may be unwritten.
-fn is_unset(row: &Row, spot: Spot) -> bool
-    ensures { result ≡ tells row.now (Unset (place_of spot)) }
+fn is_unset(state: &AbstractState, location: Location) -> bool
+    ensures { result ≡ tells state.now (Unset (place_of location)) }
 {
-    cell_of(&row.cells, spot).unset
+    cell_of(&state.cells, location).unset
 }
 
 /// Whether a guard may be unwritten.
-pub fn unset_guard(row: &Row, slot: Option<Move>) -> bool
-    ensures { result ≡ in_slot (tells row.now) unset_guard slot }
+pub fn unset_guard(state: &AbstractState, slot: Option<Move>) -> bool
+    ensures { result ≡ in_slot (tells state.now) unset_guard slot }
 {
     let Some(v) = slot else {
         return false;
@@ -37,8 +37,8 @@ pub fn unset_guard(row: &Row, slot: Option<Move>) -> bool
     match v.guard {
         None => false,
         Some(g) => is_unset(
-            row,
-            Spot::Reg {
+            state,
+            Location::Reg {
                 file: g.file,
                 index: g.index,
             },
@@ -47,37 +47,37 @@ pub fn unset_guard(row: &Row, slot: Option<Move>) -> bool
 }
 
 /// Whether a register that is read may be unwritten.
-pub fn unset_source(row: &Row, slot: Option<Move>) -> bool
-    ensures { result ≡ in_slot (tells row.now) unset_source slot }
+pub fn unset_source(state: &AbstractState, slot: Option<Move>) -> bool
+    ensures { result ≡ in_slot (tells state.now) unset_source slot }
 {
     let Some(v) = slot else {
         return false;
     };
     match v.src {
-        Source::Reg { file, index } => is_unset(row, Spot::Reg { file, index }),
-        Source::Imm { unit, index } => is_unset(row, Spot::Imm { unit, index }),
-        Source::Ra => is_unset(row, Spot::Ra),
+        Source::Reg { file, index } => is_unset(state, Location::Reg { file, index }),
+        Source::Imm { unit, index } => is_unset(state, Location::Imm { unit, index }),
+        Source::Ra => is_unset(state, Location::Ra),
         Source::Shown { .. } | Source::Value(_) => false,
     }
 }
 
 /// Whether a unit may have no result that is due by so many cycles from now.
-fn is_early(row: &Row, unit: u8, wait: u8) -> bool
-    ensures { result ≡ tells row.now (Early unit wait) }
+fn is_early(state: &AbstractState, unit: u8, wait: u8) -> bool
+    ensures { result ≡ tells state.now (Early unit wait) }
 {
-    let port = port_of(&row.ports, unit);
+    let port = port_of(&state.ports, unit);
     16 <= port.early || wait < port.early
 }
 
 /// Whether a result port that is read may show nothing.
-pub fn unset_port(row: &Row, slot: Option<Move>) -> bool
-    ensures { result ≡ in_slot (tells row.now) unset_port slot }
+pub fn unset_port(state: &AbstractState, slot: Option<Move>) -> bool
+    ensures { result ≡ in_slot (tells state.now) unset_port slot }
 {
     let Some(v) = slot else {
         return false;
     };
     match v.src {
-        Source::Shown { unit } => is_early(row, unit, 0),
+        Source::Shown { unit } => is_early(state, unit, 0),
         _ => false,
     }
 }
@@ -121,7 +121,7 @@ fn gives_in(unit: u8, guard: Option<GuardRef>, slot: Option<Move>) -> bool
 {
     match slot {
         None => false,
-        Some(v) => goes_into(v.dst, Spot::Operand { unit }) && covers(v.guard, guard),
+        Some(v) => goes_into(v.dst, Location::Operand { unit }) && covers(v.guard, guard),
     }
 }
 
@@ -133,9 +133,14 @@ fn is_given(moves: &[Option<Move>], unit: u8, guard: Option<GuardRef>) -> bool
 }
 
 /// Whether an operation may start without the word that it takes from the operand port.
-pub fn unset_operand(row: &Row, m: &Machine, i: &Instruction, slot: Option<Move>) -> bool
+pub fn unset_operand(
+    state: &AbstractState,
+    m: &Machine,
+    i: &Instruction,
+    slot: Option<Move>,
+) -> bool
     ensures { result
-        ≡ in_slot (tells row.now) (unset_operand m.now (effects_of m.now i.now)) slot }
+        ≡ in_slot (tells state.now) (unset_operand m.now (effects_of m.now i.now)) slot }
 {
     let Some(v) = slot else {
         return false;
@@ -143,16 +148,17 @@ pub fn unset_operand(row: &Row, m: &Machine, i: &Instruction, slot: Option<Move>
     match wants(m, v.dst) {
         None => false,
         Some(unit) => {
-            !is_given(i.moves.as_slice(), unit, v.guard) && is_unset(row, Spot::Operand { unit })
+            !is_given(i.moves.as_slice(), unit, v.guard)
+                && is_unset(state, Location::Operand { unit })
         }
     }
 }
 
 /// Whether a result of a unit may be due in so many cycles.
-fn is_late(row: &Row, unit: u8, wait: u8) -> bool
-    ensures { result ≡ tells row.now (Late unit wait) }
+fn is_late(state: &AbstractState, unit: u8, wait: u8) -> bool
+    ensures { result ≡ tells state.now (Late unit wait) }
 {
-    is_bit_set(port_of(&row.ports, unit).late, wait)
+    is_bit_set(port_of(&state.ports, unit).late, wait)
 }
 
 /// Whether a bit of a word is set.
@@ -168,8 +174,8 @@ fn is_bit_set(word: u32, bit: u8) -> bool
 }
 
 /// Whether a result may be due with another.
-pub fn clash(row: &Row, m: &Machine, slot: Option<Move>) -> bool
-    ensures { result ≡ in_slot (tells row.now) (clash m.now) slot }
+pub fn clash(state: &AbstractState, m: &Machine, slot: Option<Move>) -> bool
+    ensures { result ≡ in_slot (tells state.now) (clash m.now) slot }
 {
     let Some(v) = slot else {
         return false;
@@ -178,14 +184,14 @@ pub fn clash(row: &Row, m: &Machine, slot: Option<Move>) -> bool
         return false;
     };
     match op_at(m, unit, op) {
-        Some(o) if o.op.has_result() => is_late(row, unit, o.latency),
+        Some(o) if o.op.has_result() => is_late(state, unit, o.latency),
         _ => false,
     }
 }
 
 /// Whether a control move stands here while another is under way.
-pub fn delayed(row: &Row, pending: bool, slot: Option<Move>) -> bool
-    ensures { result ≡ in_slot (tells row.now) (delayed pending) slot }
+pub fn delayed(state: &AbstractState, pending: bool, slot: Option<Move>) -> bool
+    ensures { result ≡ in_slot (tells state.now) (delayed pending) slot }
 {
     match slot {
         None => false,
@@ -197,41 +203,47 @@ pub fn delayed(row: &Row, pending: bool, slot: Option<Move>) -> bool
 }
 
 /// Whether a word is told.
-fn tells_word(held: Held, word: Option<u32>) -> bool
-    ensures { result ≡ tells_word held word }
+fn tells_word(values: ValueSet, word: Option<u32>) -> bool
+    ensures { result ≡ tells_word values word }
 {
-    match held {
-        Held::Nothing => false,
-        Held::One(a) => same_word(word, a),
-        Held::Two(a, b) => same_word(word, a) || same_word(word, b),
+    match values {
+        ValueSet::Nothing => false,
+        ValueSet::One(a) => same_word(word, a),
+        ValueSet::Two(a, b) => same_word(word, a) || same_word(word, b),
     }
 }
 
 /// Whether a jump or call may go to a word that is not known.
-pub fn unknown(row: &Row, slot: Option<Move>) -> bool
-    ensures { result ≡ in_slot (tells row.now) unknown slot }
+pub fn unknown(state: &AbstractState, slot: Option<Move>) -> bool
+    ensures { result ≡ in_slot (tells state.now) unknown slot }
 {
     let Some(v) = slot else {
         return false;
     };
     match v.dst {
-        Dest::Jump | Dest::Call => may_be_unknown(row, v.src),
+        Dest::Jump | Dest::Call => may_be_unknown(state, v.src),
         _ => false,
     }
 }
 
 /// Whether a source may have a word that is not known.
-fn may_be_unknown(row: &Row, src: Source) -> bool
-    ensures { result ≡ option_map_or (tells row.now) (gives (origin_of src) None) false }
+fn may_be_unknown(state: &AbstractState, src: Source) -> bool
+    ensures { result ≡ option_map_or (tells state.now) (gives (origin_of src) None) false }
 {
     match src {
         Source::Reg { file, index } => {
-            tells_word(cell_of(&row.cells, Spot::Reg { file, index }).held, None)
+            tells_word(
+                cell_of(&state.cells, Location::Reg { file, index }).values,
+                None,
+            )
         }
         Source::Imm { unit, index } => {
-            tells_word(cell_of(&row.cells, Spot::Imm { unit, index }).held, None)
+            tells_word(
+                cell_of(&state.cells, Location::Imm { unit, index }).values,
+                None,
+            )
         }
-        Source::Ra => tells_word(cell_of(&row.cells, Spot::Ra).held, None),
+        Source::Ra => tells_word(cell_of(&state.cells, Location::Ra).values, None),
         Source::Shown { .. } => true,
         Source::Value(_) => false,
     }

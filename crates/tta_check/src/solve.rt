@@ -4,12 +4,12 @@ ghost use Rattle.std.specs.Prelude.{IfOk};
 ghost use Rattle.tta_code.specs.Legal.{IsLegalCode};
 ghost use Rattle.tta_check.specs.Statement.{Checks};
 
-use crate::begin::first_row;
+use crate::begin::first_state;
 use crate::entries::EntryTable;
-use crate::key::Key;
-use crate::spots::spots_of;
+use crate::locations::locations_of;
+use crate::point::ProgramPoint;
 use crate::verdict::Verdict;
-use crate::visit::Onward;
+use crate::visit::Successor;
 use std::alloc::{AllocError, Global};
 use tta_arch::Machine;
 use tta_code::Code;
@@ -19,25 +19,27 @@ use tta_code::Code;
 /// is safe never faults. The code must be legal for the machine. It fails only where there is no
 /// memory.
 ///
-/// What may hold of the walks that stand at one address, with one control move under way, is kept
-/// in one row, and rows are carried on until none admits more: the fixed point of a data-flow
-/// analysis, found with a list of places that wait (Kildall, 1973).
+/// This is a forward data-flow analysis. A program point is an address with the control move under
+/// way; its abstract state tells what may hold of the walks that stand there. An instruction
+/// transfers an abstract state to those of its successors, where it is joined with what was there.
+/// A worklist has the program points whose abstract state has grown, until none is left: the least
+/// fixpoint (G. Kildall, A unified approach to global program optimization, 1973).
 pub fn check(alloc: Global, m: &Machine, code: &Code) -> Result<Verdict, AllocError>
     requires { IsLegalCode m.now code.now }
     ensures verdict { IfOk result (λ v. Checks m.now code.now v) }
 {
-    let spots = spots_of(alloc, m, code)?;
-    let row = first_row(alloc, &spots, m.units.len())?;
-    let key = Key {
+    let locations = locations_of(alloc, m, code)?;
+    let state = first_state(alloc, &locations, m.units.len())?;
+    let point = ProgramPoint {
         address: 0,
         under: None,
     };
     let len = code.words.len();
     let mut table = EntryTable::new(alloc, m.control.delay, len)?;
-    if let Some(verdict) = table.put(alloc, m.control.delay, len, Onward { key, row })? {
+    if let Some(verdict) = table.put(alloc, m.control.delay, len, Successor { point, state })? {
         return Ok(verdict);
     }
-    while let Some(place) = table.stack.pop() {
+    while let Some(place) = table.worklist.pop() {
         if let Some(verdict) = table.carry(alloc, m, code, place)? {
             return Ok(verdict);
         }

@@ -4,8 +4,8 @@ ghost use Rattle.std.specs.Prelude.{◌≡◌, ◌<◌, ◌^◌, IsTrue};
 ghost use Rattle.std.specs.Option.{option_map};
 ghost use Rattle.tta_check.specs.Steps.{aged, port_after, has_latency};
 
-use crate::row::Port;
-use crate::sense::{Sense, may};
+use crate::guard_value::{GuardValue, may};
+use crate::state::Port;
 use tta_arch::GuardRef;
 
 /// A start of an operation with a result: the guard that may stop it, and its latency in cycles.
@@ -38,7 +38,7 @@ fn one_bit(bit: u8) -> u32
 }
 
 /// What is kept of a unit after a cycle.
-pub fn port_after(settled: Option<Sense>, start: Option<Start>, port: Port) -> Port
+pub fn port_after(settled: Option<GuardValue>, start: Option<Start>, port: Port) -> Port
     requires { IsTrue (has_latency start) }
     ensures { result ≡ port_after settled (option_map (λ s. (s.guard, s.latency)) start) port }
 {

@@ -6,26 +6,26 @@ ghost use Rattle.std.specs.Option.{option_map};
 ghost use Rattle.tta_code.specs.Cycle.{effect_of, effects_of};
 ghost use Rattle.tta_check.specs.Controls.{controller};
 ghost use Rattle.tta_check.specs.Going.{event_as};
-ghost use Rattle.tta_check.specs.Turns.{have_latency};
+ghost use Rattle.tta_check.specs.Transfers.{have_latency};
 ghost use Rattle.tta_check.specs.Visits.{IsWay, settled, IsActs, IsStays, Visits};
 
-use crate::aim::{aim_of, event_of};
 use crate::causes::code_at;
 use crate::effects::controller;
-use crate::key::{Event, Key, key_after, under_after};
-use crate::row::Row;
-use crate::sense::Sense;
-use crate::turn::{Turn, row_after};
+use crate::guard_value::GuardValue;
+use crate::jump_target::{event_of, jump_target_of};
+use crate::point::{Event, ProgramPoint, point_after, under_after};
+use crate::state::AbstractState;
+use crate::transfer::{Transfer, transfer};
 use crate::verdict::Verdict;
 use std::alloc::{AllocError, Global};
 use tta_arch::{GuardRef, Machine};
 use tta_code::{Instruction, Move};
 
-/// Where walks go on, and what may hold of them there.
+/// A successor: the program point where walks go on, and what may hold of them there.
 #[derive(Drop)]
-pub struct Onward {
-    pub key: Key,
-    pub row: Row,
+pub struct Successor {
+    pub point: ProgramPoint,
+    pub state: AbstractState,
 }
 
 /// What comes of an instruction: a verdict, or where walks go on where the control move acts, and
@@ -34,8 +34,8 @@ pub struct Onward {
 pub enum Outcome {
     Ends(Verdict),
     Goes {
-        acts: Option<Onward>,
-        stays: Option<Onward>,
+        acts: Option<Successor>,
+        stays: Option<Successor>,
     },
 }
 
@@ -44,34 +44,34 @@ fn go_on(
     alloc: Global,
     m: &Machine,
     i: &Instruction,
-    settled: Option<Sense>,
+    settled: Option<GuardValue>,
     event: Option<Event>,
-    at: &Onward,
-) -> Result<Option<Onward>, AllocError>
-    requires few { length at.now.row.ports.items ≤ 256 }
+    at: &Successor,
+) -> Result<Option<Successor>, AllocError>
+    requires few { length at.now.state.ports.items ≤ 256 }
     requires times { have_latency m.now i.now }
-    requires room { at.now.key.address + 1 + m.now.control.delay < 2 ^ 32 }
+    requires room { at.now.point.address + 1 + m.now.control.delay < 2 ^ 32 }
     ensures { IfOk result (λ o. IsWay m.now i.now at.now settled (option_map event_as event) o) }
 {
-    let under = under_after(m.control.delay, at.key.under, event);
-    let Some(key) = key_after(at.key.address, under) else {
+    let under = under_after(m.control.delay, at.point.under, event);
+    let Some(point) = point_after(at.point.address, under) else {
         return Ok(None);
     };
-    let turn = Turn {
-        back: at.key.address + 1 + u32::from(m.control.delay),
+    let how = Transfer {
+        back: at.point.address + 1 + u32::from(m.control.delay),
         settled,
     };
-    let row = row_after(alloc, m, i, turn, &at.row)?;
-    Ok(Some(Onward { key, row }))
+    let state = transfer(alloc, m, i, how, &at.state)?;
+    Ok(Some(Successor { point, state }))
 }
 
 /// A guard that is settled, if there is one.
-fn settled(guard: Option<GuardRef>, acts: bool) -> Option<Sense>
+fn settled(guard: Option<GuardRef>, acts: bool) -> Option<GuardValue>
     ensures { result ≡ settled guard acts }
 {
     match guard {
         None => None,
-        Some(guard) => Some(Sense { guard, acts }),
+        Some(guard) => Some(GuardValue { guard, acts }),
     }
 }
 
@@ -81,11 +81,11 @@ fn where_stays(
     m: &Machine,
     i: &Instruction,
     control: Option<Move>,
-    at: &Onward,
-) -> Result<Option<Onward>, AllocError>
-    requires few { length at.now.row.ports.items ≤ 256 }
+    at: &Successor,
+) -> Result<Option<Successor>, AllocError>
+    requires few { length at.now.state.ports.items ≤ 256 }
     requires times { have_latency m.now i.now }
-    requires room { at.now.key.address + 1 + m.now.control.delay < 2 ^ 32 }
+    requires room { at.now.point.address + 1 + m.now.control.delay < 2 ^ 32 }
     ensures { IfOk result (λ o. IsStays m.now i.now at.now (option_map effect_of control) o) }
 {
     let Some(v) = control else {
@@ -104,11 +104,11 @@ fn where_acts(
     i: &Instruction,
     control: Option<Move>,
     word: Option<u32>,
-    at: &Onward,
-) -> Result<Option<Onward>, AllocError>
-    requires few { length at.now.row.ports.items ≤ 256 }
+    at: &Successor,
+) -> Result<Option<Successor>, AllocError>
+    requires few { length at.now.state.ports.items ≤ 256 }
     requires times { have_latency m.now i.now }
-    requires room { at.now.key.address + 1 + m.now.control.delay < 2 ^ 32 }
+    requires room { at.now.point.address + 1 + m.now.control.delay < 2 ^ 32 }
     ensures { IfOk result (λ o. IsActs m.now i.now at.now (option_map effect_of control) word o) }
 {
     let Some(v) = control else {
@@ -138,24 +138,24 @@ pub fn visit(
     alloc: Global,
     m: &Machine,
     i: &Instruction,
-    at: &Onward,
+    at: &Successor,
 ) -> Result<Outcome, AllocError>
-    requires few { length at.now.row.ports.items ≤ 256 }
+    requires few { length at.now.state.ports.items ≤ 256 }
     requires times { have_latency m.now i.now }
-    requires room { at.now.key.address + 1 + m.now.control.delay < 2 ^ 32 }
+    requires room { at.now.point.address + 1 + m.now.control.delay < 2 ^ 32 }
     ensures { IfOk result (λ o. Visits m.now i.now at.now o) }
 {
-    if let Some(code) = code_at(&at.row, m, i, at.key.under.is_some()) {
+    if let Some(code) = code_at(&at.state, m, i, at.point.under.is_some()) {
         return Ok(Outcome::Ends(Verdict::Unsafe {
             code,
-            word: at.key.address,
+            word: at.point.address,
         }));
     }
     let control = control_of(m, i);
-    let Some(word) = aim_of(&at.row.cells, control) else {
+    let Some(word) = jump_target_of(&at.state.cells, control) else {
         return Ok(Outcome::Ends(Verdict::Unsafe {
             code: 80,
-            word: at.key.address,
+            word: at.point.address,
         }));
     };
     let acts = where_acts(alloc, m, i, control, word, at)?;

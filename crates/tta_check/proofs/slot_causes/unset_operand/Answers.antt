@@ -5,7 +5,7 @@ use Rattle.std.specs.List.{list_any}
 use Rattle.tta_check.specs.Cited.{KeptOperand, effects_of}
 use Rattle.tta_check.specs.Facts.{Unset}
 use Rattle.tta_check.specs.Causes.{unset_operand}
-use Rattle.tta_check.specs.Rows.{tells}
+use Rattle.tta_check.specs.States.{tells}
 use Rattle.tta_check.specs.Codes.{in_slot, gives_in}
 use Rattle.tta_check.proofs.Slots.{operand_slot}
 use Rattle.tta_check.proofs.slot_causes.unset_operand.Goals as goal
@@ -14,7 +14,7 @@ pub returns-then-not-is_given : goal.returns-then-not-is_given
 returns-then-not-is_given c =
     let m = c.args.m.now in
     let i = c.args.i.now in
-    let has = tells c.args.row.now in
+    let has = tells c.args.state.now in
     let unit = c.in-Some-wants.unit in
     let is = ap (in_slot has (unset_operand m (effects_of m i))) c.in-Some.is in
     let told = operand_slot m i has c.in-Some.v unit (sym c.wants.ensures ∙ c.in-Some-wants.is) in
@@ -25,7 +25,7 @@ pub returns-else-not-is_given : goal.returns-else-not-is_given
 returns-else-not-is_given c =
     let m = c.args.m.now in
     let i = c.args.i.now in
-    let has = tells c.args.row.now in
+    let has = tells c.args.state.now in
     let unit = c.in-Some-wants.unit in
     let is = ap (in_slot has (unset_operand m (effects_of m i))) c.in-Some.is in
     let told = operand_slot m i has c.in-Some.v unit (sym c.wants.ensures ∙ c.in-Some-wants.is) in

@@ -11,7 +11,7 @@ pub returns-in_default : goal.returns-in_default
 returns-in_default c = Empty (ap (λ xs. slice_get xs c.args.place) (sym c.deref.ensures.value) ∙ c.entry_at.ensures ∙ ap Some c.in_default.is) refl
 
 pub visit-requires-clause-times : goal.visit-requires-clause-times
-visit-requires-clause-times c = c.requires.times c.in-Some.at.key.address c.word_at.result.now (ap (λ ws. slice_get ws c.in-Some.at.key.address) (sym c.as_slice-words.ensures) ∙ c.word_at.ensures)
+visit-requires-clause-times c = c.requires.times c.in-Some.at.point.address c.word_at.result.now (ap (λ ws. slice_get ws c.in-Some.at.point.address) (sym c.as_slice-words.ensures) ∙ c.word_at.ensures)
 
 pub visit-requires-clause-room : goal.visit-requires-clause-room
 visit-requires-clause-room c =
@@ -28,12 +28,12 @@ put_both-requires c =
 
 pub returns-in-Ends : goal.returns-in-Ends
 returns-in-Ends c =
-    Ended c.in-Some.at c.word_at.result.now c.in-Ends.verdict (ap (λ xs. slice_get xs c.args.place) (sym c.deref.ensures.value) ∙ c.entry_at.ensures ∙ ap Some c.in-Some.is) (ap (λ ws. slice_get ws c.in-Some.at.key.address) (sym c.as_slice-words.ensures) ∙ c.word_at.ensures)
+    Ended c.in-Some.at c.word_at.result.now c.in-Ends.verdict (ap (λ xs. slice_get xs c.args.place) (sym c.deref.ensures.value) ∙ c.entry_at.ensures ∙ ap Some c.in-Some.is) (ap (λ ws. slice_get ws c.in-Some.at.point.address) (sym c.as_slice-words.ensures) ∙ c.word_at.ensures)
     (subst (Visits c.args.m.now c.word_at.result.now c.in-Some.at) c.in-Ends.is c.in_ok-verdict.ensures)
 
 pub returns-in_ok-verdict-in-Goes : goal.returns-in_ok-verdict-in-Goes
 returns-in_ok-verdict-in-Goes c =
-    Went c.in-Some.at c.word_at.result.now c.in-Goes.acts c.in-Goes.stays c.in_ok-verdict-in-Goes.verdict (ap (λ xs. slice_get xs c.args.place) (sym c.deref.ensures.value) ∙ c.entry_at.ensures ∙ ap Some c.in-Some.is) (ap (λ ws. slice_get ws c.in-Some.at.key.address) (sym c.as_slice-words.ensures) ∙ c.word_at.ensures) (subst (Visits c.args.m.now c.word_at.result.now c.in-Some.at) c.in-Goes.is c.in_ok-verdict.ensures)
+    Went c.in-Some.at c.word_at.result.now c.in-Goes.acts c.in-Goes.stays c.in_ok-verdict-in-Goes.verdict (ap (λ xs. slice_get xs c.args.place) (sym c.deref.ensures.value) ∙ c.entry_at.ensures ∙ ap Some c.in-Some.is) (ap (λ ws. slice_get ws c.in-Some.at.point.address) (sym c.as_slice-words.ensures) ∙ c.word_at.ensures) (subst (Visits c.args.m.now c.word_at.result.now c.in-Some.at) c.in-Goes.is c.in_ok-verdict.ensures)
     (subst (λ d. PutBoth d (length c.args.code.now.words) c.in-Goes.acts c.in-Goes.stays c.args.self.now c.put_both.new.self c.in_ok-verdict-in-Goes.verdict) (ap (λ (m : Machine). m.control.delay) c.m.view_is)
     (subst (λ (ws : List Instruction). PutBoth c.m.inside.control.delay (length ws) c.in-Goes.acts c.in-Goes.stays c.args.self.now c.put_both.new.self c.in_ok-verdict-in-Goes.verdict) c.as_slice-words.ensures
     c.in_ok-verdict-in-Goes.ensures))

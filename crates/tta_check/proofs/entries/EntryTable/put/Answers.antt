@@ -6,7 +6,7 @@ use Rattle.tta_check.proofs.entries.EntryTable.put.Goals as goal
 pub put_at-requires-clause-there : goal.put_at-requires-clause-there
 put_at-requires-clause-there c =
     subst (λ n. n < length c.args.self.now.entries.items) (sym c.place_of-place.ensures)
-    (place_below c.args.delay c.args.len c.args.onward c.args.self.now c.requires (let e = c.if-len-onward.false in omega arith))
+    (place_below c.args.delay c.args.len c.args.successor c.args.self.now c.requires (let e = c.if-len-successor.false in omega arith))
 
-pub returns-then-len-onward : goal.returns-then-len-onward
-returns-then-len-onward c = Leaves c.if-len-onward.true
+pub returns-then-len-successor : goal.returns-then-len-successor
+returns-then-len-successor c = Leaves c.if-len-successor.true

@@ -1,9 +1,0 @@
-use Rattle.std.proofs.Common.{subst}
-use Rattle.tta_check.specs.Spots.{HasWritten, Adds}
-use Rattle.tta_check.proofs.Added.{instruction_there}
-use Rattle.tta_check.proofs.spots.add_instruction.Goals as goal
-
-pub returns-clause-there : goal.returns-clause-there
-returns-clause-there c =
-    let moves = subst (λ ms. Adds HasWritten ms c.args.spots.now.items c.add_moves.new.spots.items) c.as_slice.ensures c.in_ok-add_moves.ensures in
-    instruction_there c.args.m.now c.args.i.now c.args.spots.now.items c.add_moves.new.spots.items c.add_long.new.spots.items moves c.in_ok-add_long.ensures.kept c.in_ok-add_long.ensures.there
