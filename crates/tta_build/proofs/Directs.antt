@@ -13,7 +13,7 @@ use Rattle.tta_build.specs.declared.error.BuildError.TheVariants as cause
 use Rattle.tta_build.specs.Compiled.{CompilesTo, OfOneList}
 use Rattle.tta_build.specs.Statement.{Direct, LacksRoom, HasCause}
 use Rattle.tta_build.specs.declared.register.Lowered.{Lowered}
-use Rattle.tta_build.specs.declared.choosing.Planned.{Planned}
+use Rattle.tta_build.specs.declared.best_candidate.Planned.{Planned}
 use Rattle.tta_build.specs.Lowered.{IsLoweredAs}
 use Rattle.tta_build.specs.Value.{AreDirectLists}
 use Rattle.tta_build.specs.Parts.{IsLowered, AreDirect, IsCodeFor, IsLinkCause}

@@ -2,7 +2,7 @@
 use Rattle.std.proofs.Common.{◌≡◌, ℕ, ◌+◌, List, [], ◌∷◌, ◌++◌, Some, sym, ap, subst, ◌∙◌, length, slice_get}
 use Rattle.std.proofs.lemmas.List.{length-map, map-append}
 use Rattle.tta_build.specs.Cited.{Machine, BlockList, Placed, IsFirstFit}
-use Rattle.tta_build.specs.declared.choosing.Chosen.{Chosen}
+use Rattle.tta_build.specs.declared.best_candidate.Chosen.{Chosen}
 use Rattle.tta_build.specs.declared.trail.Trail.{Trail}
 use Rattle.tta_build.specs.Candidates.{IsChosen}
 use Rattle.tta_build.specs.Trail.{IsTrail, last_of, lasts_of}

@@ -7,7 +7,7 @@ use Rattle.std.proofs.lemmas.Option.{slice_get_within}
 use Rattle.tta_build.specs.Cited.{Machine, BlockList, Placed, Respects, IsFirstFit, HasRoom, AreStandIns, optimised, HasForms, AreFirstFits, AreRoomy}
 use Rattle.tta_list.proofs.Lists.{slice_get-push, slice_get-longer, element, item_behind as last_there, length_more as push_length}
 use Rattle.tta_build.specs.Candidates.{IsCandidate, IsShortest, IsChosen, AreChosen}
-use Rattle.tta_build.specs.declared.choosing.Chosen.{Chosen}
+use Rattle.tta_build.specs.declared.best_candidate.Chosen.{Chosen}
 use Rattle.tta_build.specs.declared.trail.Trail.{Trail}
 use Rattle.tta_build.specs.Trail.{IsTrail, AreTrailsOf, last_of, lasts_of}
 use Rattle.tta_build.specs.Placing.{IsFitOf, IsKept, IsBest}

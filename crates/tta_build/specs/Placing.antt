@@ -5,9 +5,9 @@ use Rattle.tta_build.specs.declared.trail.Trail.{Trail}
 use Rattle.tta_build.specs.declared.candidates.Bound.{Bound}
 use Rattle.tta_build.specs.declared.candidates.Choices.{Choices}
 use Rattle.tta_build.specs.declared.candidates.Trails.{Trails}
-use Rattle.tta_build.specs.declared.choosing.Chosen.{Chosen}
-use Rattle.tta_build.specs.declared.choosing.Placements.{Placements}
-use Rattle.tta_build.specs.declared.choosing.Planned.{Planned}
+use Rattle.tta_build.specs.declared.best_candidate.Chosen.{Chosen}
+use Rattle.tta_build.specs.declared.best_candidate.Placements.{Placements}
+use Rattle.tta_build.specs.declared.best_candidate.Planned.{Planned}
 use Rattle.tta_build.specs.Candidates.{IsShortest, IsChosen, AreChosen}
 use Rattle.tta_build.specs.Trail.{AreRounds, IsTrail, AreTrailsOf, AreTrails, last_of, lasts_of}
 

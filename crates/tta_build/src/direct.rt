@@ -10,7 +10,7 @@ ghost use Rattle.tta_build.specs.Value.{AreDirectLists, IsDirectlyCompiled};
 ghost use Rattle.tta_build.specs.Parts.{IsCodeFor};
 ghost use Rattle.tta_build.specs.Statement.{HasCause};
 
-use crate::choosing::Planned;
+use crate::best_candidate::Planned;
 use crate::error::BuildError;
 use crate::linking::link_placed;
 use crate::placing::place_all;

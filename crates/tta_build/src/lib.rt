@@ -5,19 +5,19 @@
 //! passes prove together stands in `tta_compose`.
 #![tactic(auto)]
 
+mod best_candidate;
 mod candidates;
-mod choosing;
 mod converted;
-mod covered;
+mod covered_code;
 mod data_order;
 mod direct;
 mod direct_pair;
 mod error;
-mod homing;
 mod keeping;
 mod laws;
 mod linking;
 mod needs;
+mod placements;
 mod placing;
 mod program;
 mod pushing;
@@ -27,12 +27,11 @@ mod trail;
 mod value;
 mod ways;
 
-pub use choosing::Planned;
+pub use best_candidate::Planned;
 pub use converted::build_converted;
 pub use data_order::data_in_order;
 pub use direct_pair::is_direct;
 pub use error::BuildError;
-pub use homing::{FEW_STEPS, is_small, total_length};
 pub use keeping::beside;
 pub use laws::{
     build_completes, build_completes_plainly, build_converted_completes,
@@ -42,6 +41,7 @@ pub use laws::{
 };
 pub use linking::link_placed;
 pub use needs::unoffered;
+pub use placements::{FEW_STEPS, is_small, total_length};
 pub use placing::place_all;
 pub use program::{Built, build, compile};
 pub use register::{Analysed, Lowered, Sharing, homes_by};

@@ -11,7 +11,7 @@ ghost use Rattle.tta_build.specs.Value.{IsCompiled, IsMadeOf};
 ghost use Rattle.tta_build.specs.Parts.{IsCodeFor};
 ghost use Rattle.tta_build.specs.Statement.{IsBuilt, HasCause};
 
-use crate::covered::compile_covered;
+use crate::covered_code::compile_covered;
 use crate::data_order::data_in_order;
 use crate::direct::compile_direct;
 use crate::direct_pair::is_direct;

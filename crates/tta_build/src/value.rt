@@ -1,6 +1,6 @@
 //! What the compiler makes of a program, as one value.
 
-use crate::choosing::Planned;
+use crate::best_candidate::Planned;
 use crate::register::Lowered;
 use tta_code::Code;
 use tta_connect::Choice;

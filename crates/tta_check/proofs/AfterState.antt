@@ -9,7 +9,7 @@ use Rattle.tta_check.specs.declared.state.Cell.{Cell}
 use Rattle.tta_check.specs.declared.state.Kept.{Kept}
 use Rattle.tta_check.specs.declared.state.Port.{Port}
 use Rattle.tta_check.specs.declared.state.AbstractState.{AbstractState}
-use Rattle.tta_check.specs.declared.transfer.Transfer.{Transfer}
+use Rattle.tta_check.specs.declared.transfer_function.Transfer.{Transfer}
 use Rattle.tta_check.specs.Walks.{Choice, Word}
 use Rattle.tta_check.specs.Facts.{Fact, Here, Unset, Holds, Early, Late, before, starts_on}
 use Rattle.tta_check.specs.States.{place_of, unwritten, cell_of, idle, port_of, is_early, tells_word, covers_word, tells, covers}

@@ -3,7 +3,7 @@ use Rattle.std.proofs.Common.{◌≡◌, ℕ, zero, suc, ◌≤◌, length, List
 use Rattle.std.specs.Prelude.{slice_get, slice_set}
 use Rattle.tta_check.specs.Cited.{Machine, Kind, Instruction, Code, effects_of}
 use Rattle.tta_check.specs.declared.guard_value.GuardValue.{GuardValue}
-use Rattle.tta_check.specs.declared.transfer.Transfer.{Transfer}
+use Rattle.tta_check.specs.declared.transfer_function.Transfer.{Transfer}
 use Rattle.tta_check.specs.Controls.{controller, does}
 use Rattle.tta_check.specs.Transfers.{kept_after}
 use Rattle.tta_check.specs.Visits.{transfer_at, IsWay, IsActs, IsStays, GoesOn}

@@ -11,7 +11,7 @@ use Rattle.tta_check.specs.declared.values.ValueSet.{ValueSet}
 use Rattle.tta_check.specs.declared.values.ValueSet.TheVariants.{Nothing, One, Two}
 use Rattle.tta_check.specs.declared.state.AbstractState.{AbstractState}
 use Rattle.tta_check.specs.declared.guard_value.GuardValue.{GuardValue}
-use Rattle.tta_check.specs.declared.transfer.Transfer.{Transfer}
+use Rattle.tta_check.specs.declared.transfer_function.Transfer.{Transfer}
 use Rattle.tta_check.specs.Walks.{Choice, Word, takes_address}
 use Rattle.tta_check.specs.Facts.{Fact, Here, Unset, Late, same_word, Origin, Fixed, From, origin_of, gives, before}
 use Rattle.tta_check.specs.Causes.{unset_guard, unset_source, unset_port, wants, is_given, unset_operand, clash, delayed, unknown, any_of, code_by}

@@ -13,7 +13,7 @@ use Rattle.tta_check.specs.declared.state.Port.{Port}
 use Rattle.tta_check.specs.declared.state.AbstractState.{AbstractState}
 use Rattle.tta_check.specs.declared.guard_value.GuardValue.{GuardValue}
 use Rattle.tta_check.specs.declared.location.Location.{Location}
-use Rattle.tta_check.specs.declared.transfer.Transfer.{Transfer}
+use Rattle.tta_check.specs.declared.transfer_function.Transfer.{Transfer}
 use Rattle.tta_check.specs.declared.verdict.Verdict.{Verdict}
 use Rattle.tta_check.specs.declared.verdict.Verdict.TheVariants.{Unsafe}
 use Rattle.tta_check.specs.declared.visit.Successor.{Successor}

@@ -6,7 +6,7 @@ use Rattle.tta_check.specs.Cited.{GuardRef, Machine, is_same, is_same_guard, Eff
 use Rattle.tta_check.specs.declared.state.AbstractState.{AbstractState}
 use Rattle.tta_check.specs.declared.guard_value.GuardValue.{GuardValue}
 use Rattle.tta_check.specs.declared.location.Location.{Location}
-use Rattle.tta_check.specs.declared.transfer.Transfer.{Transfer}
+use Rattle.tta_check.specs.declared.transfer_function.Transfer.{Transfer}
 use Rattle.tta_check.specs.declared.visit.Successor.{Successor}
 use Rattle.tta_check.specs.Walks.{Word}
 use Rattle.tta_check.specs.Facts.{Fact}

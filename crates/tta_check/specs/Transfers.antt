@@ -6,7 +6,7 @@ use Rattle.tta_arch.specs.Effects.{same_place}
 use Rattle.tta_check.specs.declared.state.Kept.{Kept}
 use Rattle.tta_check.specs.declared.state.Port.{Port}
 use Rattle.tta_check.specs.declared.state.AbstractState.{AbstractState}
-use Rattle.tta_check.specs.declared.transfer.Transfer.{Transfer}
+use Rattle.tta_check.specs.declared.transfer_function.Transfer.{Transfer}
 use Rattle.tta_check.specs.States.{place_of, cell_of, port_of}
 use Rattle.tta_check.specs.Steps.{write_into, start_on, cell_from, cell_after, port_after}
 

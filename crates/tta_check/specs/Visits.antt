@@ -3,7 +3,7 @@ use Rattle.std.specs.Prelude.{◌≡◌, ℕ, ◌+◌, Bool, true, false, map, O
 use Rattle.std.specs.Option.{option_map, option_map_or}
 use Rattle.tta_check.specs.Cited.{GuardRef, Machine, Kind, Effect, Instruction, effects_of}
 use Rattle.tta_check.specs.declared.guard_value.GuardValue.{GuardValue}
-use Rattle.tta_check.specs.declared.transfer.Transfer.{Transfer}
+use Rattle.tta_check.specs.declared.transfer_function.Transfer.{Transfer}
 use Rattle.tta_check.specs.declared.visit.Successor.{Successor}
 use Rattle.tta_check.specs.declared.visit.Outcome.{Outcome}
 use Rattle.tta_check.specs.declared.visit.Outcome.TheVariants.{Ends, Goes}

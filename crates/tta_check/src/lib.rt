@@ -18,7 +18,7 @@ mod slot_causes;
 mod solve;
 mod start;
 mod state;
-mod transfer;
+mod transfer_function;
 mod values;
 mod verdict;
 mod visit;

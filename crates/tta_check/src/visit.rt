@@ -15,7 +15,7 @@ use crate::guard_value::GuardValue;
 use crate::jump_target::{event_of, jump_target_of};
 use crate::point::{Event, ProgramPoint, point_after, under_after};
 use crate::state::AbstractState;
-use crate::transfer::{Transfer, transfer};
+use crate::transfer_function::{Transfer, transfer};
 use crate::verdict::Verdict;
 use std::alloc::{AllocError, Global};
 use tta_arch::{GuardRef, Machine};

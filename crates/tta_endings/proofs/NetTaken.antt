@@ -4,7 +4,7 @@ use Rattle.std.proofs.lemmas.Bool.{cases_lt}
 use Rattle.std.proofs.lemmas.List.{length-map}
 use Rattle.std.proofs.lemmas.Option.{slice_get_within}
 use Rattle.tta_ports.specs.declared.fault.Fault.{Fault}
-use Rattle.tta_endings.specs.Cited.{Store, Rose, World, Output, input_of, Units, over, Whole, data_in, Core, Network, Joined, joined, AreAtRest, cycles, first_states, Feeds, links_of, Turn, fault_at, StopsAfter, went_in, last_answers, after_rounds, HasEnded, MachineFile, Status, IsHeld, IsDescribed, RefusesMachine, IsImageFor, RefusesImage, Fills, RefusesInput, AreLinks, RefusesLinks, cores_in, name_of, word_of, IsCoreFrom, as_core, CoreFileFails, CoreFails, HasCores, CoresFail, first_fault, rounds_status, NetPuts, NetReports, CoresReport}
+use Rattle.tta_endings.specs.Cited.{Store, Rose, World, Output, input_of, Units, over, Whole, data_in, Core, Network, Joined, joined, AreAtRest, cycles, first_states, Feeds, links_of, StepResult, fault_at, StopsAfter, went_in, last_answers, after_rounds, HasEnded, MachineFile, Status, IsHeld, IsDescribed, RefusesMachine, IsImageFor, RefusesImage, Fills, RefusesInput, AreLinks, RefusesLinks, cores_in, name_of, word_of, IsCoreFrom, as_core, CoreFileFails, CoreFails, HasCores, CoresFail, first_fault, rounds_status, NetPuts, NetReports, CoresReport}
 use Rattle.tta_code.specs.Cycle.{State}
 use Rattle.tta_given.specs.declared.status.Status.TheVariants as status
 use Rattle.tta_endings.specs.Completes.{showing}
@@ -119,13 +119,13 @@ module _ (net : Network State) (count : ℕ) (cs : List (Joined State)) (most : 
   ]
 
   -- what is put of cores that rest at no fault
-  put_only : (last : List Turn) (end : List (Joined State)) (old new : Output) (s : Status) → (Rose old.faults new.faults → ⊥)
+  put_only : (last : List StepResult) (end : List (Joined State)) (old new : Output) (s : Status) → (Rose old.faults new.faults → ⊥)
       → first_fault (fault_at end) (length last) ≡ None → NetPuts false last end old new s → s ≡ status.Ok
   put_only last end old new status.WriteFault none sound ends = absurd (none ends.rose)
   put_only last end old new s none sound ends = ends.0 ∙ ap (rounds_status false) sound
 
   -- rounds that are made come to the same
-  rounds_only : (Rests : List (Joined State) → Type 0) (last turns : List Turn) (is_running : Bool) (old new : Output) (s : Status)
+  rounds_only : (Rests : List (Joined State) → Type 0) (last turns : List StepResult) (is_running : Bool) (old new : Output) (s : Status)
       → (Rose old.faults new.faults → ⊥) → HasEnded net count cs most false last (λ end. first_fault (fault_at end) (length last) ≡ None)
       → HasEnded net count cs most is_running turns (λ end. NetPuts is_running turns end old new s × Rests end) → s ≡ status.Ok
   rounds_only Rests last turns true old new s none a b =
@@ -137,7 +137,7 @@ module _ (net : Network State) (count : ℕ) (cs : List (Joined State)) (most : 
   rounds_only Rests last turns false old new s none a b =
       let rest = a.resting refl in
       let made = same_made a.made b.made a.stops b.stops rest.0 rest.1 rest.2 in
-      let answers : map (λ (t : Turn). Some t) last ≡ map (λ (t : Turn). Some t) turns =
+      let answers : map (λ (t : StepResult). Some t) last ≡ map (λ (t : StepResult). Some t) turns =
       a.answers ∙ ap (last_answers net count cs) made ∙ sym b.answers in
       let long : length last ≡ length turns = sym (length-map last (λ t. Some t)) ∙ ap length answers ∙ length-map turns (λ t. Some t) in
       let sound = subst (λ (k : ℕ). first_fault (fault_at (after_rounds net count cs k)) (length last) ≡ None) made a.stands in
@@ -146,7 +146,7 @@ module _ (net : Network State) (count : ℕ) (cs : List (Joined State)) (most : 
 
 -- ---- the command
 
-reports_only : (u : Units) (feeds : Feeds) (cores : List Core) (memories : List (List ℕ)) (rounds : ℕ) (last : List Turn) (old new : Output) (s : Status)
+reports_only : (u : Units) (feeds : Feeds) (cores : List Core) (memories : List (List ℕ)) (rounds : ℕ) (last : List StepResult) (old new : Output) (s : Status)
     → (Rose old.faults new.faults → ⊥)
     → HasEnded (cycles u cores feeds) (length cores) (joined (first_states cores memories)) rounds false last
     (λ end. first_fault (fault_at end) (length last) ≡ None)

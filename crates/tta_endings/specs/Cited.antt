@@ -51,7 +51,7 @@ pub use Rattle.tta_list.specs.Laid.{over}
 unfoldable pub use Rattle.tta_machine.specs.Text.{machine_of_text}
 pub use Rattle.tta_net.specs.Clusters.{fault_at}
 pub use Rattle.tta_net.specs.Rounds.{HasEnded, StopsAfter, after_rounds, last_answers, went_in}
-pub use Rattle.tta_net.specs.declared.turn.Turn.{Turn}
+pub use Rattle.tta_net.specs.declared.step_result.StepResult.{StepResult}
 pub use Rattle.tta_network.specs.CoreFiles.{AreLinks, CoreFails, CoreFileFails, CoresFail, HasCores, IsCoreFrom, RefusesLinks, as_core, cores_in, name_of, word_of}
 pub use Rattle.tta_network.specs.Net.{CoresReport, HasMadeRounds, NetPuts, NetReports, Nets, first_fault, net_text, rounds_status}
 pub use Rattle.tta_ops.specs.Units.{Units}

@@ -1,7 +1,7 @@
 -- Which nets `net` takes without fail.
 use Rattle.std.specs.Prelude.{◌≡◌, ◌⊎◌, ℕ, false, List, length, Option, Some, None}
 use Rattle.tta_ports.specs.declared.fault.Fault.{Fault}
-use Rattle.tta_endings.specs.Cited.{Store, World, Output, Units, joined, cycles, first_states, Turn, fault_at, HasEnded, Status, Held, AreLinks, cores_in, HasCores, first_fault, Nets}
+use Rattle.tta_endings.specs.Cited.{Store, World, Output, Units, joined, cycles, first_states, StepResult, fault_at, HasEnded, Status, Held, AreLinks, cores_in, HasCores, first_fault, Nets}
 use Rattle.tta_given.specs.declared.status.Status.TheVariants as status
 use Rattle.tta_endings.specs.Completes.{showing}
 use Rattle.tta_endings.specs.PutCompletes.{IsUndisturbed}
@@ -10,7 +10,7 @@ use Rattle.tta_endings.specs.PutCompletes.{IsUndisturbed}
 pub record HasRestingNet (u : Units) (store : Store) (rounds : ℕ) (LINKS : List ℕ) (names : List (List ℕ)) : Type 0 where
   pub links : Held (AreLinks (cores_in (length names))) (Some store) LINKS
   pub has : HasCores u (Some store) names (cores_in (length names))
-  pub last : List Turn
+  pub last : List StepResult
   pub ended : HasEnded (cycles u has.cores links.value) (length has.cores) (joined (first_states has.cores has.memories)) rounds false last
       (λ cs. first_fault (fault_at cs) (length last) ≡ None)
 

@@ -6,13 +6,13 @@ use Rattle.std.proofs.lemmas.Bool.{cases_lt}
 use Rattle.std.proofs.lemmas.List.{length-replicate}
 use Rattle.std.proofs.lemmas.List.Sums.{fold-append}
 use Rattle.tta_net.specs.Cited.{Units, State, Core, Network, Joined, turn, cycles}
-use Rattle.tta_net.specs.declared.turn.Turn.{Turn}
-use Rattle.tta_net.specs.declared.turn.Turn.TheVariants as turn_told
+use Rattle.tta_net.specs.declared.step_result.StepResult.{StepResult}
+use Rattle.tta_net.specs.declared.step_result.StepResult.TheVariants as turn_told
 use Rattle.tta_net.specs.Clusters.{HeldCluster, IsClusterOf, StandsFor, feeds_of, made_by}
 use Rattle.tta_net.specs.Rounds.{numbers, steps_in, answers, is_ran, round, after_rounds, answers_in, last_answers, went_in, HasEnded}
 
 -- So many rounds are made, and in each some core ran.
-pub record IsRunSoFar (u : Units) (cores : List Core) (old now : HeldCluster) (last : List Turn) (made : ℕ) : Type 0 where
+pub record IsRunSoFar (u : Units) (cores : List Core) (old now : HeldCluster) (last : List StepResult) (made : ℕ) : Type 0 where
   pub within : made ≤ old.rounds
   pub loaded : IsClusterOf cores now
   pub feeds : feeds_of now ≡ feeds_of old
@@ -28,7 +28,7 @@ pub round_more : (net : Network State) (count : ℕ) (cs : List (Joined State)) 
     → after_rounds net count cs (suc made) ≡ round net count (after_rounds net count cs made)
 round_more net count cs made = fold-append (turn net) cs (steps_in count made) (numbers count)
 
-any_some : (ts : List Turn) → list_any (λ o. option_map_or is_ran o false) (map (λ t. Some t) ts) ≡ list_any is_ran ts
+any_some : (ts : List StepResult) → list_any (λ o. option_map_or is_ran o false) (map (λ t. Some t) ts) ≡ list_any is_ran ts
 any_some [] = refl
 any_some (t ∷ ts) = ap (λ b. is_ran t || b) (any_some ts)
 
@@ -38,14 +38,14 @@ same_each f zero x = refl
 same_each f (suc n) x = ap (λ xs. f x ∷ xs) (same_each f n x)
 
 -- none is made
-pub run_begins : (u : Units) (cores : List Core) (old : HeldCluster) (last : List Turn) → IsClusterOf cores old → last ≡ replicate (length cores) turn_told.Ran
+pub run_begins : (u : Units) (cores : List Core) (old : HeldCluster) (last : List StepResult) → IsClusterOf cores old → last ≡ replicate (length cores) turn_told.Ran
     → ((k : ℕ) → made_by old k ≡ 0) → IsRunSoFar u cores old old last 0
 run_begins u cores old last loaded turns none = record {
   within = omega arith;
   loaded = loaded;
   feeds = refl;
   rounds = refl;
-  turns = ap length turns ∙ length-replicate {A = Turn} (length cores) turn_told.Ran;
+  turns = ap length turns ∙ length-replicate {A = StepResult} (length cores) turn_told.Ran;
   counted = λ k. omega (arith, none k);
   next = λ cs stands. stands;
   went = λ cs stands i less. absurd (omega (arith, less));
@@ -53,7 +53,7 @@ run_begins u cores old last loaded turns none = record {
 }
 
 -- What a round leaves.
-pub record RoundSo (u : Units) (cores : List Core) (now new : HeldCluster) (turns : List Turn) (ran : Bool) : Type 0 where
+pub record RoundSo (u : Units) (cores : List Core) (now new : HeldCluster) (turns : List StepResult) (ran : Bool) : Type 0 where
   pub loaded : IsClusterOf cores new
   pub feeds : feeds_of new ≡ feeds_of now
   pub rounds : new.rounds ≡ now.rounds
@@ -62,7 +62,7 @@ pub record RoundSo (u : Units) (cores : List Core) (now new : HeldCluster) (turn
   pub told : (cs : List (Joined State)) → StandsFor cores now cs → map (λ t. Some t) turns ≡ answers (cycles u cores (feeds_of now)) cs (numbers (length cores))
   pub ran_is : ran ≡ list_any is_ran turns
 
-module _ (u : Units) (cores : List Core) (old now new : HeldCluster) (last turns : List Turn) (ran : Bool) (made : ℕ) (was : IsRunSoFar u cores old now last made) (so : RoundSo u cores now new turns ran) where
+module _ (u : Units) (cores : List Core) (old now new : HeldCluster) (last turns : List StepResult) (ran : Bool) (made : ℕ) (was : IsRunSoFar u cores old now last made) (so : RoundSo u cores now new turns ran) where
   abbrev net : Network State
   net = cycles u cores (feeds_of old)
 
@@ -116,7 +116,7 @@ module _ (u : Units) (cores : List Core) (old now new : HeldCluster) (last turns
   }
 
 -- all that may be made are made
-pub run_over : (u : Units) (cores : List Core) (old now : HeldCluster) (last : List Turn) (made : ℕ) → IsRunSoFar u cores old now last made → old.rounds ≤ made
+pub run_over : (u : Units) (cores : List Core) (old now : HeldCluster) (last : List StepResult) (made : ℕ) → IsRunSoFar u cores old now last made → old.rounds ≤ made
     → (cs : List (Joined State)) → StandsFor cores old cs → HasEnded (cycles u cores (feeds_of old)) (length cores) cs old.rounds true last (StandsFor cores now)
 run_over u cores old now last made was past cs stands = record {
   made = made;

@@ -3,8 +3,8 @@ use Rattle.std.specs.Prelude.{◌≡◌, ℕ, zero, suc, ◌+◌, ◌<◌, ◌�
 use Rattle.std.specs.Option.{option_map_or}
 use Rattle.std.specs.List.{list_any}
 use Rattle.tta_net.specs.Cited.{State, Network, Joined, turn, interleaved}
-use Rattle.tta_net.specs.declared.turn.Turn.{Turn}
-use Rattle.tta_net.specs.declared.turn.Turn.TheVariants as turn_told
+use Rattle.tta_net.specs.declared.step_result.StepResult.{StepResult}
+use Rattle.tta_net.specs.declared.step_result.StepResult.TheVariants as turn_told
 use Rattle.tta_net.specs.Clusters.{told_at}
 
 -- the numbers of so many cores, in order
@@ -26,26 +26,26 @@ abbrev pub after_rounds : Network State → (count : ℕ) → List (Joined State
 after_rounds net count cs made = interleaved net cs (steps_in count made)
 
 -- what each of these steps answers, one after another
-abbrev pub answers : Network State → List (Joined State) → (steps : List ℕ) → List (Option Turn)
+abbrev pub answers : Network State → List (Joined State) → (steps : List ℕ) → List (Option StepResult)
 answers net cs [] = []
 answers net cs (core ∷ steps) = told_at net cs core ∷ answers net (turn net cs core) steps
 
 -- whether a turn made a cycle
-abbrev pub is_ran : Turn → Bool
+abbrev pub is_ran : StepResult → Bool
 is_ran turn_told.Ran = true
 is_ran turn_told.Halted = false
 is_ran turn_told.Waiting = false
 is_ran (turn_told.Fault number) = false
 
 -- what the turns of a round answer, and whether some core ran in it
-abbrev pub answers_in : Network State → (count : ℕ) → List (Joined State) → (made : ℕ) → List (Option Turn)
+abbrev pub answers_in : Network State → (count : ℕ) → List (Joined State) → (made : ℕ) → List (Option StepResult)
 answers_in net count cs made = answers net (after_rounds net count cs made) (numbers count)
 
 abbrev pub went_in : Network State → (count : ℕ) → List (Joined State) → (made : ℕ) → Bool
 went_in net count cs made = list_any (λ o. option_map_or is_ran o false) (answers_in net count cs made)
 
 -- what the last turn of each core answers after so many rounds: a core that had none counts as one that goes on
-abbrev pub last_answers : Network State → (count : ℕ) → List (Joined State) → (made : ℕ) → List (Option Turn)
+abbrev pub last_answers : Network State → (count : ℕ) → List (Joined State) → (made : ℕ) → List (Option StepResult)
 last_answers net count cs zero = replicate count (Some turn_told.Ran)
 last_answers net count cs (suc n) = answers_in net count cs n
 
@@ -57,7 +57,7 @@ pub record StopsAfter (net : Network State) (count : ℕ) (cs : List (Joined Sta
 
 -- What rounds came to: how many were made, whether some core ran in each that may be made, what the last turn of each core answered,
 -- and for which cluster the cores then stand.
-pub record HasEnded (net : Network State) (count : ℕ) (cs : List (Joined State)) (most : ℕ) (is_running : Bool) (last : List Turn) (Stands : List (Joined State) → Type 0) : Type 0 where
+pub record HasEnded (net : Network State) (count : ℕ) (cs : List (Joined State)) (most : ℕ) (is_running : Bool) (last : List StepResult) (Stands : List (Joined State) → Type 0) : Type 0 where
   pub made : ℕ
   pub stops : StopsAfter net count cs most made
   pub running : is_running ≡ true → (i : ℕ) → i < most → went_in net count cs i ≡ true

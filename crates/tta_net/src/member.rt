@@ -10,10 +10,10 @@ ghost use Rattle.tta_sim.specs.Results.{AreKept};
 ghost use Rattle.tta_cores.specs.Network.{Joined, after_step, stepped};
 ghost use Rattle.tta_net.specs.Members.{IsMemberOf, StandsAs, alone, turn_of};
 ghost use Rattle.tta_net.specs.Loaded.{CanLoad, IsFirst};
-ghost use Rattle.tta_net.specs.declared.turn.Turn.TheVariants as told;
+ghost use Rattle.tta_net.specs.declared.step_result.StepResult.TheVariants as told;
 
 use crate::outputs::Outputs;
-use crate::turn::Turn;
+use crate::step_result::StepResult;
 use std::alloc::{AllocError, Global};
 use tta_cores::Core;
 use tta_flight::Region;
@@ -34,10 +34,10 @@ pub struct Member {
 /// The answer of a turn with this fault. It is not in line: the answer of nearly all turns then
 /// stays one that the caller knows.
 #[inline(never)]
-fn faulted(number: u8) -> Turn
+fn faulted(number: u8) -> StepResult
     ensures { result ≡ told.Fault number }
 {
-    Turn::Fault(number)
+    StepResult::Fault(number)
 }
 
 impl Member {
@@ -92,7 +92,7 @@ impl Member {
         region: &mut Region,
         core: &Core,
         units: &UnitSet,
-    ) -> Option<Turn>
+    ) -> Option<StepResult>
         requires loaded { IsMemberOf region.old core.now self.old }
         requires room { self.old.state.cycle < self.old.output.room }
         ensures loaded { IsMemberOf region.new core.now self.new }
@@ -121,7 +121,7 @@ impl Member {
             return None;
         }
         match self.state.ending() {
-            Ending::Running | Ending::Halted => Some(Turn::Ran),
+            Ending::Running | Ending::Halted => Some(StepResult::Ran),
             Ending::Fault { number, .. } => Some(faulted(number)),
         }
     }
@@ -134,7 +134,7 @@ impl Member {
         core: &Core,
         units: &UnitSet,
         next: Option<u32>,
-    ) -> Turn
+    ) -> StepResult
         requires loaded { IsMemberOf region.old core.now self.old }
         requires room { self.old.state.cycle < self.old.output.room }
         ensures loaded { IsMemberOf region.new core.now self.new }
@@ -160,11 +160,11 @@ impl Member {
         {
             CycleStep::Ran { put, took } => {
                 self.note(put, took);
-                Turn::Ran
+                StepResult::Ran
             }
-            CycleStep::Halted => Turn::Halted,
-            CycleStep::Waiting => Turn::Waiting,
-            CycleStep::Fault(number) => Turn::Fault(number),
+            CycleStep::Halted => StepResult::Halted,
+            CycleStep::Waiting => StepResult::Waiting,
+            CycleStep::Fault(number) => StepResult::Fault(number),
         }
     }
 }

@@ -3,12 +3,12 @@ use Rattle.std.proofs.Common.{◌≡◌, ◌<◌, inl, inr, ℕ, zero, suc, ◌+
 use Rattle.std.proofs.lemmas.Bool.{cases_lt}
 use Rattle.std.proofs.lemmas.List.{drop_more}
 use Rattle.std.proofs.lemmas.Grind.{flat_map-append}
-use Rattle.tta_network.specs.Cited.{Line, line_text, lines_text, core_lines, Turn}
+use Rattle.tta_network.specs.Cited.{Line, line_text, lines_text, core_lines, StepResult}
 use Rattle.tta_network.specs.Net.{turn_line, net_lines, earlier, first_fault}
 
 module _ (output : ℕ → List ℕ) (fault : ℕ → Option (ℕ × ℕ)) where
   -- the text of the cores from one on: its own, and that of the others
-  pub net_at : (last : List Turn) (core k : ℕ) (d : Turn) → k < length last
+  pub net_at : (last : List StepResult) (core k : ℕ) (d : StepResult) → k < length last
       → lines_text (net_lines output fault core (drop k last))
       ≡ lines_text (core_lines core (output core) (turn_line (fault core) (get_or last k d))) ++ lines_text (net_lines output fault (core + 1) (drop (k + 1) last))
   net_at last core k d below =
@@ -16,7 +16,7 @@ module _ (output : ℕ → List ℕ) (fault : ℕ → Option (ℕ × ℕ)) where
       ∙ flat_map-append line_text (core_lines core (output core) (turn_line (fault core) (get_or last k d))) (net_lines output fault (core + 1) (drop (k + 1) last))
 
   -- the same, where the core's words and the line of its last turn come by other names
-  pub net_put : (last : List Turn) (core k : ℕ) (d : Turn) (words : List ℕ) (f : Option (ℕ × ℕ)) (line : Line) → words ≡ output core → f ≡ fault core
+  pub net_put : (last : List StepResult) (core k : ℕ) (d : StepResult) (words : List ℕ) (f : Option (ℕ × ℕ)) (line : Line) → words ≡ output core → f ≡ fault core
       → line ≡ turn_line f (get_or last k d) → k < length last
       → lines_text (net_lines output fault core (drop k last)) ≡ lines_text (core_lines core words line) ++ lines_text (net_lines output fault (core + 1) (drop (k + 1) last))
   net_put last core k d words f line words_are fault_is line_is below =
@@ -26,7 +26,7 @@ module _ (output : ℕ → List ℕ) (fault : ℕ → Option (ℕ × ℕ)) where
 
   -- the same lines are printed by what is the same of each core
   pub net_same : (output' : ℕ → List ℕ) (fault' : ℕ → Option (ℕ × ℕ)) → ((k : ℕ) → output k ≡ output' k) → ((k : ℕ) → fault k ≡ fault' k)
-      → (core : ℕ) (last : List Turn) → net_lines output fault core last ≡ net_lines output' fault' core last
+      → (core : ℕ) (last : List StepResult) → net_lines output fault core last ≡ net_lines output' fault' core last
   net_same output' fault' same alike core [] = refl
   net_same output' fault' same alike core (turn ∷ turns) =
       ap (λ words. core_lines core words (turn_line (fault core) turn) ++ net_lines output fault (core + 1) turns) (same core)

@@ -3,7 +3,7 @@ use Rattle.std.proofs.Common.{◌≡◌, ℕ, inl, inr, Bool, true, false, List,
 use Rattle.std.specs.Option.{option_map_or}
 use Rattle.std.proofs.lemmas.Bool.{cases_lt}
 use Rattle.std.proofs.lemmas.Option.{slice_get_past}
-use Rattle.tta_network.specs.Cited.{World, Output, IsPut, IsCut, lines_text, Units, State, Core, Network, Joined, joined, AreAtRest, cycles, first_states, Turn, HeldCluster, IsClusterOf, StandsFor, words_of, fault_by, fault_told, output_at, fault_at, after_rounds, HasEnded, Status, IsTaken}
+use Rattle.tta_network.specs.Cited.{World, Output, IsPut, IsCut, lines_text, Units, State, Core, Network, Joined, joined, AreAtRest, cycles, first_states, StepResult, HeldCluster, IsClusterOf, StandsFor, words_of, fault_by, fault_told, output_at, fault_at, after_rounds, HasEnded, Status, IsTaken}
 use Rattle.tta_ports.proofs.Worlds.{same_world}
 use Rattle.tta_net.proofs.Together.{output_same, fault_same}
 use Rattle.tta_net.proofs.Rest.{rounds_rest}
@@ -13,7 +13,7 @@ use Rattle.tta_network.specs.Net.{net_lines, net_text, first_fault, rounds_statu
 use Rattle.tta_network.proofs.NetLines.{net_same, first_same, none_first}
 
 -- what rounds came to, with something else that is true of the cores then
-pub ended_with : {net : Network State} {count : ℕ} {cs : List (Joined State)} {most : ℕ} {is_running : Bool} {last : List Turn} {P Q : List (Joined State) → Type 0}
+pub ended_with : {net : Network State} {count : ℕ} {cs : List (Joined State)} {most : ℕ} {is_running : Bool} {last : List StepResult} {P Q : List (Joined State) → Type 0}
     → (ended : HasEnded net count cs most is_running last P) → Q (after_rounds net count cs ended.made) → HasEnded net count cs most is_running last Q
 ended_with ended is = record {
   made = ended.made;
@@ -25,13 +25,13 @@ ended_with ended is = record {
 }
 
 -- a text that was put, and the status that goes with it
-put_well : (is_running : Bool) (last : List Turn) (cs : List (Joined State)) (old new : Output) (fault : Option (ℕ × ℕ))
+put_well : (is_running : Bool) (last : List StepResult) (cs : List (Joined State)) (old new : Output) (fault : Option (ℕ × ℕ))
     → fault ≡ first_fault (fault_at cs) (length last) → IsPut (net_text cs last) old new → NetPuts is_running last cs old new (rounds_status is_running fault)
 put_well true last cs old new fault is put = (refl, put)
 put_well false last cs old new (Some f) is put = (ap (rounds_status false) is, put)
 put_well false last cs old new None is put = (ap (rounds_status false) is, put)
 
-module _ (u : Units) (feeds : List (Option ℕ)) (cores : List Core) (memories : List (List ℕ)) (rounds : ℕ) (h : HeldCluster) (last : List Turn) (old new : Output)
+module _ (u : Units) (feeds : List (Option ℕ)) (cores : List Core) (memories : List (List ℕ)) (rounds : ℕ) (h : HeldCluster) (last : List StepResult) (old new : Output)
     (loaded : IsClusterOf cores h) (turns : length last ≡ length cores) where
   abbrev net : Network State
   net = cycles u cores feeds
@@ -97,7 +97,7 @@ module _ (u : Units) (feeds : List (Option ℕ)) (cores : List Core) (memories :
 pub reports : (u : Units) (feeds : List (Option ℕ)) (cores : List Core) (memories : List (List ℕ)) (rounds : ℕ) (old new : Output) (s : Status)
     → HasMadeRounds u feeds cores memories rounds old new s → NetReports u feeds cores memories rounds old new s
 reports u feeds cores memories rounds old new status.NoMemory made = absurd (lacks made.last made.is_running made.ended) where
-  lacks : (last : List Turn) (is_running : Bool) → HasEnded (cycles u cores feeds) (length cores) (joined (first_states cores memories)) rounds is_running last
+  lacks : (last : List StepResult) (is_running : Bool) → HasEnded (cycles u cores feeds) (length cores) (joined (first_states cores memories)) rounds is_running last
       (λ cs. NetPuts is_running last cs old new status.NoMemory × (status.NoMemory ≡ status.Ok → AreAtRest (cycles u cores feeds) cs)) → ⊥
   lacks last true ended = let odd = ended.stands.0.0 in cc
   lacks last false ended = other (first_fault (fault_at (after_rounds (cycles u cores feeds) (length cores) (joined (first_states cores memories)) ended.made)) (length last)) ended.stands.0.0 where

@@ -19,7 +19,7 @@ pub use Rattle.tta_list.specs.Laid.{over}
 pub use Rattle.tta_net.specs.Clusters.{HeldCluster, IsClusterOf, StandsFor, fault_at, fault_by, fault_told, feeds_of, output_at, words_of}
 pub use Rattle.tta_net.specs.Loaded.{CanLoad, CanLoadAll}
 pub use Rattle.tta_net.specs.Rounds.{HasEnded, after_rounds}
-pub use Rattle.tta_net.specs.declared.turn.Turn.{Turn}
+pub use Rattle.tta_net.specs.declared.step_result.StepResult.{StepResult}
 pub use Rattle.tta_ops.specs.Set.{stated}
 pub use Rattle.tta_ops.specs.Units.{Units}
 pub use Rattle.tta_ports.specs.Output.{IsCut, IsPut, IsQuiet, Output}

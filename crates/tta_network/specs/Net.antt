@@ -1,16 +1,16 @@
 -- What the command `net` does: cores that are joined by queues make rounds, and what they have output is printed.
 use Rattle.std.specs.Prelude.{◌≡◌, ◌⊎◌, ℕ, zero, suc, ◌+◌, Bool, true, false, List, [], ◌∷◌, ◌++◌, length, Option, Some, None}
 use Rattle.std.specs.Option.{option_map_or}
-use Rattle.tta_network.specs.Cited.{World, IsUntouched, Output, IsQuiet, IsPut, IsCut, Line, lines_text, core_lines, Units, State, Core, Joined, joined, AreAtRest, cycles, first_states, Turn, output_at, fault_at, HasEnded, Status, Held, FileFails}
+use Rattle.tta_network.specs.Cited.{World, IsUntouched, Output, IsQuiet, IsPut, IsCut, Line, lines_text, core_lines, Units, State, Core, Joined, joined, AreAtRest, cycles, first_states, StepResult, output_at, fault_at, HasEnded, Status, Held, FileFails}
 use Rattle.tta_print.specs.declared.line.Line.TheVariants as line
-use Rattle.tta_net.specs.declared.turn.Turn.TheVariants as turn
+use Rattle.tta_net.specs.declared.step_result.StepResult.TheVariants as turn
 use Rattle.tta_given.specs.declared.status.Status.TheVariants as status
 use Rattle.tta_network.specs.CoreFiles.{AreLinks, RefusesLinks, cores_in, HasCores, CoresFail}
 
 -- ---- what is printed
 
 -- how a core's last turn ended; the cycle of a fault is the core's own
-abbrev pub turn_line : (fault : Option (ℕ × ℕ)) → Turn → Line
+abbrev pub turn_line : (fault : Option (ℕ × ℕ)) → StepResult → Line
 turn_line fault turn.Ran = line.Running
 turn_line fault turn.Halted = line.Halted
 turn_line fault turn.Waiting = line.Waiting
@@ -18,12 +18,12 @@ turn_line fault (turn.Fault number) = option_map_or (λ f. line.Fault f.0 f.1) f
 
 -- The lines of the cores from one on, by what each has output, the fault that it is at, and its last turn: its number, its words, and
 -- how that turn ended.
-abbrev pub net_lines : (output : ℕ → List ℕ) → (fault : ℕ → Option (ℕ × ℕ)) → (core : ℕ) → (last : List Turn) → List Line
+abbrev pub net_lines : (output : ℕ → List ℕ) → (fault : ℕ → Option (ℕ × ℕ)) → (core : ℕ) → (last : List StepResult) → List Line
 net_lines output fault core [] = []
 net_lines output fault core (turn ∷ turns) = core_lines core (output core) (turn_line (fault core) turn) ++ net_lines output fault (core + 1) turns
 
 -- all that is printed of cores that have come to these states, where these were their last turns
-abbrev pub net_text : List (Joined State) → (last : List Turn) → List ℕ
+abbrev pub net_text : List (Joined State) → (last : List StepResult) → List ℕ
 net_text cs last = lines_text (net_lines (output_at cs) (fault_at cs) 0 last)
 
 -- ---- how rounds end
@@ -45,14 +45,14 @@ rounds_status false (Some f) = status.MachineFault f.0 f.1
 rounds_status false None = status.Ok
 
 -- cores that have come to these states are reported: their text is put, or a prefix of it
-abbrev pub NetPuts : (is_running : Bool) → (last : List Turn) → List (Joined State) → (old new : Output) → Status → Type 0
+abbrev pub NetPuts : (is_running : Bool) → (last : List StepResult) → List (Joined State) → (old new : Output) → Status → Type 0
 NetPuts is_running last cs old new status.WriteFault = IsCut (net_text cs last) old new
 NetPuts is_running last cs old new s = (s ≡ rounds_status is_running (first_fault (fault_at cs) (length last))) × IsPut (net_text cs last) old new
 
 -- Cores have made rounds and are reported. Where that ends well, they are at rest.
 pub record HasMadeRounds (u : Units) (feeds : List (Option ℕ)) (cores : List Core) (memories : List (List ℕ)) (rounds : ℕ) (old new : Output) (s : Status) : Type 0 where
   pub is_running : Bool
-  pub last : List Turn
+  pub last : List StepResult
   pub ended : HasEnded (cycles u cores feeds) (length cores) (joined (first_states cores memories)) rounds is_running last
       (λ cs. NetPuts is_running last cs old new s × (s ≡ status.Ok → AreAtRest (cycles u cores feeds) cs))
 

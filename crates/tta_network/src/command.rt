@@ -7,7 +7,7 @@ ghost use Rattle.tta_cores.specs.Network.{joined};
 ghost use Rattle.tta_cores.specs.Cluster.{first_states};
 ghost use Rattle.tta_net.specs.Loaded.{CanLoadAll};
 ghost use Rattle.tta_net.specs.Clusters.{IsClusterOf, StandsFor, feeds_of, made_by};
-ghost use Rattle.tta_net.specs.declared.turn.Turn.TheVariants.{Ran};
+ghost use Rattle.tta_net.specs.declared.step_result.StepResult.TheVariants.{Ran};
 ghost use Rattle.tta_network.specs.CoreFiles.{cores_in};
 ghost use Rattle.tta_network.specs.Net.{HasMadeRounds, NetReports, CoresReport, Nets};
 
@@ -17,7 +17,7 @@ use crate::report::{first_fault, put_net, rounds_status};
 use crate::request::NetRequest;
 use std::alloc::Global;
 use tta_given::Status;
-use tta_net::{Cluster, Core, Turn};
+use tta_net::{Cluster, Core, StepResult};
 use tta_ops::UnitSet;
 use tta_ports::{Failed, Files, Sink};
 
@@ -28,7 +28,7 @@ fn make_rounds<S: Sink>(
     sink: &mut S,
     cluster: &mut Cluster,
     cores: &[Core],
-    last: &mut [Turn],
+    last: &mut [StepResult],
 ) -> Status
     requires loaded { IsClusterOf cores.now cluster.old }
     requires none { (k : ℕ) → made_by cluster.old k ≡ 0 }
@@ -63,7 +63,7 @@ fn run_cores<S: Sink>(
         (S.output sink.old) (S.output sink.new) result }
 {
     let Cores { cores, memories } = taken;
-    let Ok(mut last) = vec![in alloc; Turn::Ran; cores.len()] else {
+    let Ok(mut last) = vec![in alloc; StepResult::Ran; cores.len()] else {
         return Status::NoMemory;
     };
     match Cluster::load(alloc, cores.as_slice(), feeds, memories, rounds) {

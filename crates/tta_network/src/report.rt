@@ -8,20 +8,20 @@ ghost use Rattle.tta_net.specs.Clusters.{words_of, fault_by};
 ghost use Rattle.tta_network.specs.Net as spec;
 
 use tta_given::Status;
-use tta_net::{Cluster, Turn};
+use tta_net::{Cluster, StepResult};
 use tta_ports::{Failed, Sink};
 use tta_print::{Line, put_core};
 
 /// The line that says how a core's last turn ended, by the fault that it is at.
-fn turn_line(turn: Turn, fault: Option<(u8, u64)>) -> Line
+fn turn_line(turn: StepResult, fault: Option<(u8, u64)>) -> Line
     ensures { result ≡ spec.turn_line fault turn }
 {
     match (turn, fault) {
-        (Turn::Ran, _) => Line::Running,
-        (Turn::Halted, _) => Line::Halted,
-        (Turn::Waiting, _) => Line::Waiting,
-        (Turn::Fault(_), Some((code, cycle))) => Line::Fault { code, cycle },
-        (Turn::Fault(_), None) => Line::Running,
+        (StepResult::Ran, _) => Line::Running,
+        (StepResult::Halted, _) => Line::Halted,
+        (StepResult::Waiting, _) => Line::Waiting,
+        (StepResult::Fault(_), Some((code, cycle))) => Line::Fault { code, cycle },
+        (StepResult::Fault(_), None) => Line::Running,
     }
 }
 
@@ -29,7 +29,7 @@ fn turn_line(turn: Turn, fault: Option<(u8, u64)>) -> Line
 ///
 /// It answers `Failed` at the first line at which the sink does, which has then taken a prefix of
 /// all lines.
-pub fn put_net<S: Sink>(sink: &mut S, cluster: &Cluster, last: &[Turn]) -> Result<(), Failed>
+pub fn put_net<S: Sink>(sink: &mut S, cluster: &Cluster, last: &[StepResult]) -> Result<(), Failed>
     requires cores { length last.now ≤ length cluster.now.members }
     requires few { length last.now ≤ 8 }
     ensures grows { let lines = spec.net_lines (words_of cluster.now) (fault_by cluster.now) 0 in
