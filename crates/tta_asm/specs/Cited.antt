@@ -24,7 +24,7 @@ pub use Rattle.tta_code.specs.declared.code.Move.{Move}
 pub use Rattle.tta_code.specs.declared.whole.Datum.{Datum}
 unfoldable pub use Rattle.tta_ops.specs.Reserved.{is_reserved}
 pub use Rattle.tta_ops.specs.Set.{stated}
-pub use Rattle.tta_ops.specs.Stated.{stated_by}
+unfoldable pub use Rattle.tta_ops.specs.Stated.{stated_by}
 pub use Rattle.tta_ops.specs.Units.{Units, named}
 pub use Rattle.tta_ops.specs.declared.OpId.{OpId}
 pub use Rattle.tta_ops.specs.declared.set.UnitSet.{UnitSet}

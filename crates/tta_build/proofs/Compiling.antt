@@ -5,8 +5,8 @@ use Rattle.tta_build.specs.Cited.{Units, Machine, IsMachine, StandsOver, Choice,
 use Rattle.tta_build.specs.declared.error.BuildError.{BuildError}
 use Rattle.tta_build.specs.declared.register.Analysed.{Analysed}
 use Rattle.tta_build.specs.declared.register.Sharing.TheVariants.{InTurn, Least}
-use Rattle.tta_build.specs.declared.placements.Homed.{Homed}
-use Rattle.tta_build.specs.declared.placements.Listed.{Listed}
+use Rattle.tta_build.specs.declared.placed_program.Homed.{Homed}
+use Rattle.tta_build.specs.declared.placed_program.Listed.{Listed}
 use Rattle.tta_build.specs.declared.value.Assembled.{Assembled}
 use Rattle.tta_build.specs.declared.value.Compiled.{Compiled}
 use Rattle.tta_build.specs.Statement.{HasCause, unsupplied}

@@ -5,8 +5,8 @@ use Rattle.tta_lower.specs.Statement.{IsCodeOf}
 use Rattle.tta_build.specs.declared.register.Sharing.{Sharing}
 use Rattle.tta_build.specs.declared.register.Analysed.{Analysed}
 use Rattle.tta_build.specs.declared.best_candidate.Planned.{Planned}
-use Rattle.tta_build.specs.declared.placements.Homed.{Homed}
-use Rattle.tta_build.specs.declared.placements.Listed.{Listed}
+use Rattle.tta_build.specs.declared.placed_program.Homed.{Homed}
+use Rattle.tta_build.specs.declared.placed_program.Listed.{Listed}
 use Rattle.tta_build.specs.declared.value.Assembled.{Assembled}
 use Rattle.tta_build.specs.declared.value.Compiled.{Compiled}
 use Rattle.tta_build.specs.Sharing.{AreHomesBy}

@@ -16,7 +16,7 @@ use crate::error::BuildError;
 use crate::keeping::beside;
 use crate::linking::link_placed;
 use crate::needs::unoffered;
-use crate::placements::{Homed, homed_best};
+use crate::placed_program::{Homed, homed_best};
 use crate::register::{Analysed, Lowered, analyse};
 use crate::value::{Assembled, Compiled};
 use std::alloc::Global;

@@ -17,7 +17,7 @@ mod keeping;
 mod laws;
 mod linking;
 mod needs;
-mod placements;
+mod placed_program;
 mod placing;
 mod program;
 mod pushing;
@@ -41,7 +41,7 @@ pub use laws::{
 };
 pub use linking::link_placed;
 pub use needs::unoffered;
-pub use placements::{FEW_STEPS, is_small, total_length};
+pub use placed_program::{FEW_STEPS, is_small, total_length};
 pub use placing::place_all;
 pub use program::{Built, build, compile};
 pub use register::{Analysed, Lowered, Sharing, homes_by};

@@ -78,7 +78,7 @@ fn ports_from(
 }
 
 /// What an abstract state is after an instruction that is carried out like this.
-pub fn transfer(
+pub fn transferred(
     alloc: Global,
     m: &Machine,
     i: &Instruction,

@@ -15,7 +15,7 @@ use crate::guard_value::GuardValue;
 use crate::jump_target::{event_of, jump_target_of};
 use crate::point::{Event, ProgramPoint, point_after, under_after};
 use crate::state::AbstractState;
-use crate::transfer_function::{Transfer, transfer};
+use crate::transfer_function::{Transfer, transferred};
 use crate::verdict::Verdict;
 use std::alloc::{AllocError, Global};
 use tta_arch::{GuardRef, Machine};
@@ -61,7 +61,7 @@ fn go_on(
         back: at.point.address + 1 + u32::from(m.control.delay),
         settled,
     };
-    let state = transfer(alloc, m, i, how, &at.state)?;
+    let state = transferred(alloc, m, i, how, &at.state)?;
     Ok(Some(Successor { point, state }))
 }
 

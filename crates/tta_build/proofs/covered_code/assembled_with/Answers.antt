@@ -1,7 +1,7 @@
 use Rattle.std.proofs.Common.{sym, subst}
 use Rattle.std.proofs.lemmas.Result.{err_from_is_err_and, IfOk-at_ok}
 use Rattle.tta_build.specs.Cited.{stated}
-use Rattle.tta_build.specs.declared.placements.Homed.{Homed}
+use Rattle.tta_build.specs.declared.placed_program.Homed.{Homed}
 use Rattle.tta_build.specs.declared.value.Assembled.{Assembled}
 use Rattle.tta_build.specs.Value.{IsHomedBest}
 use Rattle.tta_build.specs.Parts.{IsCodeFor}

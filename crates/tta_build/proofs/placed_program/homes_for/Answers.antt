@@ -1,7 +1,7 @@
 use Rattle.std.proofs.Common.{arith}
 use Rattle.tta_build.proofs.FewHomes.{few_homes}
 use Rattle.tta_build.proofs.WithHomes.{homes_by_len}
-use Rattle.tta_build.proofs.placements.homes_for.Goals as goal
+use Rattle.tta_build.proofs.placed_program.homes_for.Goals as goal
 
 pub overflow_cast-homes : goal.overflow_cast-homes
 overflow_cast-homes c =

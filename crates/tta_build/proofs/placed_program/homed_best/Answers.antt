@@ -3,11 +3,11 @@ use Rattle.std.specs.Prelude.{IfSome}
 use Rattle.std.proofs.lemmas.Result.{IfOk-at_ok}
 use Rattle.tta_build.specs.Cited.{stated, Homes}
 use Rattle.tta_build.specs.declared.register.Sharing.TheVariants.{Least}
-use Rattle.tta_build.specs.declared.placements.Homed.{Homed}
+use Rattle.tta_build.specs.declared.placed_program.Homed.{Homed}
 use Rattle.tta_build.specs.Sharing.{AreHomesBy}
 use Rattle.tta_build.specs.Value.{IsListedWith, IsHomedBest}
 use Rattle.tta_build.proofs.Compiling.{in_turn, of_two}
-use Rattle.tta_build.proofs.placements.homed_best.Goals as goal
+use Rattle.tta_build.proofs.placed_program.homed_best.Goals as goal
 
 pub returns-in-None-clause-best : goal.returns-in-None-clause-best
 returns-in-None-clause-best g c =

@@ -1,7 +1,7 @@
 use Rattle.std.proofs.Common.{◌≡◌, ℕ, ◌+◌, drop, length}
 use Rattle.std.specs.List.{sum_by}
 use Rattle.tta_build.specs.Cited.{Proc}
-use Rattle.tta_build.proofs.placements.have_at_most.Given as goal
+use Rattle.tta_build.proofs.placed_program.have_at_most.Given as goal
 
 abbrev pub invariant-loop-q : goal.invariant-loop-q
 invariant-loop-q l =

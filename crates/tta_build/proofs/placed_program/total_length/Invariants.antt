@@ -1,6 +1,6 @@
 use Rattle.std.proofs.Common.{◌≡◌, ◌+◌, ◌≤◌, drop, ◌*◌}
 use Rattle.tta_build.specs.Cited.{total_length}
-use Rattle.tta_build.proofs.placements.total_length.Given as goal
+use Rattle.tta_build.proofs.placed_program.total_length.Given as goal
 
 abbrev pub invariant-loop-p : goal.invariant-loop-p
 invariant-loop-p l = record {

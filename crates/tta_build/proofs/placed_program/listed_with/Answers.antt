@@ -5,7 +5,7 @@ use Rattle.tta_lower.specs.Statement.{IsCodeOf}
 use Rattle.tta_build.specs.declared.best_candidate.Planned.{Planned}
 use Rattle.tta_build.specs.Placing.{ArePlanned}
 use Rattle.tta_build.proofs.CoveredCode.{lowered_with, blocks_fit, selected_with, selected_lists}
-use Rattle.tta_build.proofs.placements.listed_with.Goals as goal
+use Rattle.tta_build.proofs.placed_program.listed_with.Goals as goal
 
 pub lower-requires-clause-homes : goal.lower-requires-clause-homes
 lower-requires-clause-homes g c =
