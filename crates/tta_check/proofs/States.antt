@@ -4,7 +4,7 @@ use Rattle.tta_arch.specs.declared.ends.Source.TheVariants as source
 use Rattle.tta_arch.specs.declared.ends.Dest.TheVariants as dest
 use Rattle.tta_arch.proofs.Samples.{three_buses}
 use Rattle.tta_check.specs.Cited.{Instruction, Code}
-use Rattle.tta_code.proofs.States.{go, three, r, into, wide}
+use Rattle.tta_code.proofs.Rows.{go, three, r, into, wide}
 use Rattle.tta_check.specs.Walks.{after, walk}
 use Rattle.tta_check.specs.Verdict.{HasCode}
 
