@@ -11,7 +11,7 @@ use Rattle.tta_board.specs.Laws.{AreSpaces, BoardAgrees}
 use Rattle.tta_board.proofs.Running.{board_runs}
 
 -- the cores of pairs are cores
-are_cores : (u : Units) (pairs : List Pair) → AllByRecursion (IsPair u) pairs → AllByRecursion IsCore (map core_in pairs)
+pub are_cores : (u : Units) (pairs : List Pair) → AllByRecursion (IsPair u) pairs → AllByRecursion IsCore (map core_in pairs)
 are_cores u [] all = tt
 are_cores u (p ∷ pairs) all = (record { machine = all.0.machine; legal = all.0.legal }, are_cores u pairs all.1)
 
@@ -23,7 +23,7 @@ module _ (u : Units) (pairs : List Pair) (feeds : List (Option ℕ)) (memories :
   abbrev spaces : List (List ℕ)
   spaces = map core_memory pairs
 
-  are_spaces : AreSpaces cores memories spaces
+  pub are_spaces : AreSpaces cores memories spaces
   are_spaces core c there =
       let of = made_from core_in pairs core c there in
       let is = all_one (IsPair u) pairs core of.0 all of.1 in

@@ -31,7 +31,7 @@ module _ (u : Units) (cores : List Core) (feeds : List (Option ℕ)) (memories :
   more_steps steps more = fold-append (turn net) (joined (first_states cores spaces)) steps more
 
   -- no next cycle is a fault, for the core would be at one after it
-  fine_next : (steps : List ℕ) → AreFine u cores feeds memories k (after steps)
+  pub fine_next : (steps : List ℕ) → AreFine u cores feeds memories k (after steps)
   fine_next steps core j there = by (net.waits next) refl where
     next : State
     next = after_step net core (waiting_for net (after steps) core j) j

@@ -1,14 +1,14 @@
 -- A clock of a queue.
-use Rattle.std.proofs.Common.{◌≡◌, ℕ, suc, ◌+◌, ◌-◌, ◌%◌, ◌/◌, ◌^◌, ◌<◌, ◌≤◌, ◌==◌, Bool, true, false, not, ◌&&◌, ◌||◌, nat_lt, List, [], ◌∷◌, ◌++◌, length, drop, refl, sym, ap, ◌∙◌, subst, arith, append-nil}
+use Rattle.std.proofs.Common.{◌≡◌, ℕ, ◌+◌, ◌-◌, ◌%◌, ◌/◌, ◌^◌, ◌<◌, ◌≤◌, ◌==◌, Bool, true, false, not, ◌&&◌, ◌||◌, nat_lt, List, [], ◌∷◌, length, drop, refl, sym, ap, ◌∙◌, subst, arith, append-nil}
 use Rattle.std.specs.Prelude.{if◌then◌else◌, slice_index, slice_set}
 use Rattle.std.proofs.lemmas.Bool.{ltb-true, ltb-false, eqb-true, eq-eqb, and_parts, false≢true, and_right}
 use Rattle.std.proofs.lemmas.Nat.{pow_pos}
 use Rattle.tta_ops.specs.Units.{Units}
 use Rattle.tta_circuit.specs.Meaning.{Held, bit, is_set, settled, clocked}
-use Rattle.tta_queue.specs.Queue.{Pin, InValid, InData, OutReady, IsReset, Head, Tail, Fill, InReady, OutValid, Takes, Gives, Store, Words, same_pin, same_store, queue_of}
+use Rattle.tta_queue.specs.Queue.{Pin, InValid, InData, OutReady, IsReset, Head, Tail, Fill, InReady, OutValid, OutData, Takes, Gives, NextHead, Passes, Store, Words, same_pin, same_store, queue_of}
 use Rattle.tta_queue.specs.Laws.{Stand, HasInside, takes, gives, after_clock, Shows, HasBegun, QueueClocks, QueueBegins, QueueLooks}
-use Rattle.tta_queue.proofs.Round.{distance, low_bits, twice}
-use Rattle.tta_queue.proofs.Standing.{one_goes, one_comes, stands_alike, none_stand}
+use Rattle.tta_queue.proofs.Round.{distance, twice}
+use Rattle.tta_queue.proofs.Standing.{one_goes, one_comes, first_after, stands_alike, none_stand}
 
 -- ---- tests
 
@@ -57,11 +57,14 @@ module _ (u : Units) (k width : ℕ) (h : Held Pin Store) (words : List ℕ) (in
   abbrev env : Pin → ℕ
   env = settled same_pin u (queue_of k width) h inputs
 
+  abbrev stand : Stand k (h.words Head) (h.words Tail) (h.memories Words) words
+  stand = inside.stand
+
   fill : env Fill ≡ length words
   fill =
-      ap (λ n. (2 ^ (1 + k) + n - h.words Head) % 2 ^ (1 + k)) inside.ends
-      ∙ ap (λ n. (2 ^ (1 + k) + (inside.first + length words) % 2 ^ (1 + k) - n) % 2 ^ (1 + k)) inside.starts
-      ∙ distance inside.first (length words) (2 ^ (1 + k)) (omega (arith, inside.fits, twice k, pow_pos k))
+      ap (λ n. (2 ^ (1 + k) + n - h.words Head) % 2 ^ (1 + k)) stand.ends
+      ∙ ap (λ n. (2 ^ (1 + k) + (stand.first + length words) % 2 ^ (1 + k) - n) % 2 ^ (1 + k)) stand.starts
+      ∙ distance stand.first (length words) (2 ^ (1 + k)) (omega (arith, stand.fits, twice k, pow_pos k))
 
   -- where it is not filled so far
   unfilled : (count : ℕ)
@@ -73,15 +76,10 @@ module _ (u : Units) (k width : ℕ) (h : Held Pin Store) (words : List ℕ) (in
 
   shows : Shows k env words
   shows = record {
-    ready = unfilled (2 ^ k) ∙ room (length words) (2 ^ k) inside.fits;
+    ready = unfilled (2 ^ k) ∙ room (length words) (2 ^ k) stand.fits;
     valid = unfilled 0;
-    word = λ w rest is.
-        ap (λ n. slice_index (h.memories Words) (n / 2 ^ 0 % 2 ^ k)) inside.starts
-        ∙ ap (slice_index (h.memories Words)) (low_bits inside.first k ∙ ap (λ n. n % 2 ^ k) (none_on inside.first))
-        ∙ inside.places 0 (let l : length words ≡ suc (length rest) = ap length is in omega (arith, l)) ∙ ap (λ ws. slice_index ws 0) is;
-  } where
-    none_on : (n : ℕ) → n ≡ n + 0
-    none_on n = omega arith
+    word = inside.first;
+  }
 
   -- where a word goes in
   abbrev place : ℕ
@@ -91,42 +89,72 @@ module _ (u : Units) (k width : ℕ) (h : Held Pin Store) (words : List ℕ) (in
   abbrev next : ℕ → ℕ
   next n = (n + 1) % 2 ^ (1 + k)
 
+  -- where the first word stands afterwards
+  abbrev head_after : Bool → ℕ
+  head_after g = if g then next (h.words Head) else h.words Head
+
+  -- the words, once the first is gone, if it is given
+  record HasGone (g : Bool) : Type 0 where
+    pub stands : Stand k (head_after g) (h.words Tail) (h.memories Words) (if g then drop 1 words else words)
+    pub fewer : length (if g then drop 1 words else words) ≤ length words
+
+  gone : (g : Bool) → gives env ≡ g → HasGone g
+  gone true is = record {
+    stands =
+        one_goes k (h.words Head) (h.words Tail) (h.memories Words) words
+        (sym shows.valid ∙ (and_parts (is_set (env OutValid)) (is_set (env OutReady)) is).0) stand;
+    fewer = less words;
+  } where
+    less : (ws : List ℕ) → length (drop 1 ws) ≤ length ws
+    less [] = omega arith
+    less (w ∷ ws) = omega arith
+  gone false is = record { stands = stand; fewer = omega arith }
+
+  -- a word is taken only where there is room
+  free : takes env ≡ true → length words < 2 ^ k
+  free is = ltb-true (length words) (2 ^ k) (sym shows.ready ∙ (and_parts (is_set (env InValid)) (is_set (env InReady)) is).1)
+
   -- what the clock leaves
   clocks : (g t : Bool) → gives env ≡ g → takes env ≡ t
-      → Stand k (if g then next (h.words Head) else h.words Head) (if t then next (h.words Tail) else h.words Tail)
+      → Stand k (head_after g) (if t then next (h.words Tail) else h.words Tail)
       (if t then slice_set (h.memories Words) place (inputs InData) else h.memories Words) (after_clock g t (inputs InData) words)
-  clocks g t g_is t_is = second t t_is (first g g_is) where
-    first : (b : Bool) → gives env ≡ b
-        → (Stand k (if b then next (h.words Head) else h.words Head) (h.words Tail) (h.memories Words)
-        (if b then drop 1 words else words))
-        × (length (if b then drop 1 words else words) ≤ length words)
-    first true is = (
-      one_goes k (h.words Head) (h.words Tail) (h.memories Words) words
-          (sym shows.valid ∙ (and_parts (is_set (env OutValid)) (is_set (env OutReady)) is).0) inside,
-      less words,
-    ) where
-      less : (ws : List ℕ) → length (drop 1 ws) ≤ length ws
-      less [] = omega arith
-      less (w ∷ ws) = omega arith
-    first false is = (inside, omega arith)
+  clocks g true g_is t_is =
+      let before = gone g g_is in
+      let room = free t_is in
+      one_comes k (head_after g) (h.words Tail) (inputs InData) (h.memories Words) (if g then drop 1 words else words)
+      (let le = before.fewer in omega (arith, le, room)) before.stands
+  clocks g false g_is t_is =
+      subst (Stand k (head_after g) (h.words Tail) (h.memories Words)) (sym (append-nil (if g then drop 1 words else words)))
+      (gone g g_is).stands
 
-    second : {head : ℕ} {ws : List ℕ} → (b : Bool) → takes env ≡ b
-        → Stand k head (h.words Tail) (h.memories Words) ws × (length ws ≤ length words)
-        → Stand k head (if b then next (h.words Tail) else h.words Tail)
-        (if b then slice_set (h.memories Words) place (inputs InData) else h.memories Words)
-        (ws ++ (if b then inputs InData ∷ [] else []))
-    second {head} {ws} true is before =
-        let free : length words < 2 ^ k =
-        ltb-true (length words) (2 ^ k) (sym shows.ready ∙ (and_parts (is_set (env InValid)) (is_set (env InReady)) is).1) in
-        one_comes k head (h.words Tail) (inputs InData) (h.memories Words) ws (let le = before.1 in omega (arith, le, free)) before.0
-    second {head} {ws} false is before = subst (Stand k head (h.words Tail) (h.memories Words)) (sym (append-nil ws)) before.0
+  -- the word that the register of the first word takes
+  front_after : (w : ℕ) (rest : List ℕ) → after_clock (gives env) (takes env) (inputs InData) words ≡ w ∷ rest
+      → (clocked same_pin same_store u (queue_of k width) env h).words OutData ≡ w
+  front_after w rest is =
+      ap (λ (b : Bool). if b then inputs InData else slice_index (h.memories Words) (env NextHead / 2 ^ 0 % 2 ^ k)) passes
+      ∙ ap (λ n. if takes env && (place == n / 2 ^ 0 % 2 ^ k) then inputs InData else slice_index (h.memories Words) (n / 2 ^ 0 % 2 ^ k)) head
+      ∙ first_after k (head_after (gives env)) (h.words Tail) (inputs InData) (h.memories Words) (if gives env then drop 1 words else words)
+      (takes env) (λ t. let le = (gone (gives env) refl).fewer in let room = free t in omega (arith, le, room)) (gone (gives env) refl).stands w
+      rest is
+    where
+      passes : is_set (env Passes) ≡ (takes env && (place == env NextHead / 2 ^ 0 % 2 ^ k))
+      passes =
+          set_bit (is_set (env Takes) && is_set (bit (place == env NextHead / 2 ^ 0 % 2 ^ k)))
+          ∙ ap (λ b. b && is_set (bit (place == env NextHead / 2 ^ 0 % 2 ^ k))) (set_bit (takes env))
+          ∙ ap (λ b. takes env && b) (set_bit (place == env NextHead / 2 ^ 0 % 2 ^ k))
+
+      head : env NextHead ≡ head_after (gives env)
+      head = ap head_after (set_bit (gives env))
 
   left : HasInside k (clocked same_pin same_store u (queue_of k width) env h) (after_clock (gives env) (takes env) (inputs InData) words)
-  left =
-      stands_alike (counts_on (is_set (inputs IsReset)) (gives env) (next (h.words Head)) (h.words Head) on)
-      (counts_on (is_set (inputs IsReset)) (takes env) (next (h.words Tail)) (h.words Tail) on)
-      (ap (λ (b : Bool). if b then slice_set (h.memories Words) place (inputs InData) else h.memories Words) (set_bit (takes env)))
-      (clocks (gives env) (takes env) refl refl)
+  left = record {
+    stand =
+        stands_alike (counts_on (is_set (inputs IsReset)) (gives env) (next (h.words Head)) (h.words Head) on)
+        (counts_on (is_set (inputs IsReset)) (takes env) (next (h.words Tail)) (h.words Tail) on)
+        (ap (λ (b : Bool). if b then slice_set (h.memories Words) place (inputs InData) else h.memories Words) (set_bit (takes env)))
+        (clocks (gives env) (takes env) refl refl);
+    first = front_after;
+  }
 
 pub queue_clocks : QueueClocks
 queue_clocks u k width h words inputs inside on = (shows u k width h words inputs inside on, left u k width h words inputs inside on)
@@ -156,11 +184,14 @@ module _ (u : Units) (k width : ℕ) (h : Held Pin Store) (inputs : Pin → ℕ)
     untaken = untaken;
     ungiven = ap (λ b. b && is_set (inputs OutReady)) (not_shown 0);
     kept = same_memory;
-    empty =
-        stands_alike
-        (counts_anew (is_set (inputs IsReset)) (is_set (first_env Gives)) ((h.words Head + 1) % 2 ^ (1 + k)) (h.words Head) reset)
-        (counts_anew (is_set (inputs IsReset)) (is_set (first_env Takes)) ((h.words Tail + 1) % 2 ^ (1 + k)) (h.words Tail) reset)
-        same_memory (none_stand k (h.memories Words) size);
+    empty = record {
+      stand =
+          stands_alike
+          (counts_anew (is_set (inputs IsReset)) (is_set (first_env Gives)) ((h.words Head + 1) % 2 ^ (1 + k)) (h.words Head) reset)
+          (counts_anew (is_set (inputs IsReset)) (is_set (first_env Takes)) ((h.words Tail + 1) % 2 ^ (1 + k)) (h.words Tail) reset)
+          same_memory (none_stand k (h.memories Words) size);
+      first = λ w rest is. absurd cc;
+    };
   }
 
 pub queue_begins : QueueBegins

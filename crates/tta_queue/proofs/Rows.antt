@@ -1,7 +1,7 @@
 -- Queues of two words and of one, clock by clock.
 use Rattle.std.specs.Prelude.{◌≡◌, ℕ, zero, suc, ◌+◌, [], ◌∷◌, refl}
 use Rattle.tta_ops.specs.Units.{Units}
-use Rattle.tta_queue.specs.Queue.{Pin, InValid, InData, OutReady, IsReset, InReady, OutValid}
+use Rattle.tta_queue.specs.Queue.{Pin, InValid, InData, OutReady, IsReset, InReady, OutValid, OutData}
 use Rattle.tta_queue.specs.Laws.{pins, taken, given}
 
 -- whether a clock begins anew: the first does, and no other
@@ -27,6 +27,10 @@ fills u = refl
 
 full : (u : Units) → pins u 1 32 any_words (offers 0) 3 InReady ≡ 0
 full u = refl
+
+-- meanwhile it shows the first
+waits : (u : Units) → pins u 1 32 any_words (offers 0) 4 OutData ≡ 6
+waits u = refl
 
 -- where all are asked for, each goes a clock after it came, around the end of the memory too
 flows : (u : Units) → given u 1 32 any_words (offers 1) 7 ≡ 6 ∷ 7 ∷ 8 ∷ 9 ∷ 10 ∷ []

@@ -83,7 +83,7 @@ module _ (u : Units) (k width : ℕ) (powers : Pin → ℕ) (inputs : ℕ → Pi
             ap (λ ws. ws ++ new) before.order
             ∙ stays_in_order (gives env) (given u k width powers inputs t) before.words new (env OutData)
             (λ is. first_word k env before.words (shown t less before) (and_parts (is_set (env OutValid)) (is_set (env OutReady)) is).0);
-        fits = inside.fits;
+        fits = inside.stand.fits;
       }
 
   every : (t : ℕ) → last < t → HasQueued u k width powers inputs t

@@ -3,11 +3,11 @@ use Rattle.std.proofs.Common.{◌≡◌, ℕ, ◌+◌, ◌^◌, ◌<◌, ◌==�
 use Rattle.std.specs.Prelude.{if◌then◌else◌}
 use Rattle.std.proofs.lemmas.Bool.{eqb-true, eq-eqb, lt-ltb, le-leb, and_from}
 use Rattle.std.proofs.lemmas.Nat.{pow_pos}
-use Rattle.tta_circuit.specs.Circuit.{Expr, Signal, Slice, Minus, Read}
+use Rattle.tta_circuit.specs.Circuit.{Expr, Const, Signal, Slice, Select, Both, Equal, Plus, Minus, Read}
 use Rattle.tta_circuit.specs.Plain.{IsWritten, IsPlain}
 use Rattle.tta_circuit.specs.Closed.{IsClosed}
 use Rattle.tta_circuit.specs.Laws.{TellsApart}
-use Rattle.tta_queue.specs.Queue.{Pin, InValid, InData, OutReady, IsReset, Head, Tail, Fill, InReady, OutValid, OutData, Takes, Gives, Store, Words, number, same_pin, same_store, queue_of, unless_filled, pin_width, store_width}
+use Rattle.tta_queue.specs.Queue.{Pin, InValid, InData, OutReady, IsReset, Head, Tail, Fill, InReady, OutValid, OutData, Takes, Gives, NextHead, Passes, Store, Words, number, same_pin, same_store, queue_of, unless_filled, pin_width, store_width}
 use Rattle.tta_queue.specs.Laws.{QueueIsSaid}
 use Rattle.tta_queue.proofs.Round.{twice}
 
@@ -18,7 +18,8 @@ abbrev pin_of : ℕ → Pin
 pin_of n =
     if n == 0 then InValid else if n == 1 then InData else if n == 2 then OutReady else if n == 3 then IsReset
     else if n == 4 then Head else if n == 5 then Tail else if n == 6 then Fill else if n == 7 then InReady
-    else if n == 8 then OutValid else if n == 9 then OutData else if n == 10 then Takes else Gives
+    else if n == 8 then OutValid else if n == 9 then OutData else if n == 10 then Takes else if n == 11 then Gives
+    else if n == 12 then NextHead else Passes
 
 pin_is : (p : Pin) → pin_of (number p) ≡ p
 pin_is InValid = refl
@@ -33,6 +34,8 @@ pin_is OutValid = refl
 pin_is OutData = refl
 pin_is Takes = refl
 pin_is Gives = refl
+pin_is NextHead = refl
+pin_is Passes = refl
 
 pins_apart : TellsApart same_pin
 pins_apart = record {
@@ -49,8 +52,8 @@ stores_apart = record { is = one; itself = λ a. refl } where
 
 closed : (k width : ℕ) → IsClosed same_pin (queue_of k width)
 closed k width = record {
-  wires = (refl, (refl, (refl, (refl, (refl, (refl, tt))))));
-  registers = ((refl, refl), ((refl, refl), tt));
+  wires = (refl, (refl, (refl, (refl, (refl, (refl, (refl, tt)))))));
+  registers = ((refl, refl), ((refl, refl), ((refl, refl), tt)));
   memories = ((refl, (refl, refl)), tt);
 }
 
@@ -101,12 +104,39 @@ module _ (k width : ℕ) (some : 0 < k) (bits : 0 < width) where
   part_sized : (nat_le (0 + k) (1 + k) && true) ≡ true
   part_sized = and_from (nat_le (0 + k) (1 + k)) true (le-leb (0 + k) (1 + k) (omega arith)) refl
 
-  data_written : IsWrittenHere (Read Words (Slice 0 k (Signal Head))) width
-  data_written = record {
-    plain = and_from (nat_lt 0 width) (nat_lt 0 k && nat_lt 0 (1 + k)) (lt-ltb 0 width bits) part_plain;
-    sized = part_sized;
+  -- where the first word stands afterwards
+  one_more_sized : (((1 + k == 1 + k) && (1 + k == 1 + k)) && (true && nat_lt 1 (2 ^ (1 + k)))) ≡ true
+  one_more_sized =
+      and_from ((1 + k == 1 + k) && (1 + k == 1 + k)) (nat_lt 1 (2 ^ (1 + k))) two_alike (lt-ltb 1 (2 ^ (1 + k)) (pow_two k))
+
+  head_written : IsWrittenHere (Select (Signal Gives) (Plus (1 + k) (Signal Head) (Const (1 + k) 1)) (Signal Head)) (1 + k)
+  head_written = record {
+    plain = and_from (nat_lt 0 (1 + k) && nat_lt 0 (1 + k)) (nat_lt 0 (1 + k)) two_wide wide;
+    sized =
+        and_from (1 + k == 1 + k) ((((1 + k == 1 + k) && (1 + k == 1 + k)) && (true && nat_lt 1 (2 ^ (1 + k)))) && true) alike
+        (and_from (((1 + k == 1 + k) && (1 + k == 1 + k)) && (true && nat_lt 1 (2 ^ (1 + k)))) true one_more_sized refl);
     wide = refl;
   }
+
+  passes_written : IsWrittenHere (Both (Signal Takes) (Equal (Slice 0 k (Signal Tail)) (Slice 0 k (Signal NextHead)))) 1
+  passes_written = record {
+    plain = and_from (nat_lt 0 k && nat_lt 0 (1 + k)) (nat_lt 0 k && nat_lt 0 (1 + k)) part_plain part_plain;
+    sized =
+        and_from (k == k) ((nat_le (0 + k) (1 + k) && true) && (nat_le (0 + k) (1 + k) && true)) (eq-eqb k k refl)
+        (and_from (nat_le (0 + k) (1 + k) && true) (nat_le (0 + k) (1 + k) && true) part_sized part_sized);
+    wide = refl;
+  }
+
+  front_written : IsWrittenHere (Select (Signal Passes) (Signal InData) (Read Words (Slice 0 k (Signal NextHead)))) width
+  front_written =
+      let bits_test : nat_lt 0 width ≡ true = lt-ltb 0 width bits in
+      record {
+        plain =
+            and_from (nat_lt 0 width) (nat_lt 0 width && (nat_lt 0 k && nat_lt 0 (1 + k))) bits_test
+            (and_from (nat_lt 0 width) (nat_lt 0 k && nat_lt 0 (1 + k)) bits_test part_plain);
+        sized = and_from (width == width) (nat_le (0 + k) (1 + k) && true) (eq-eqb width width refl) part_sized;
+        wide = refl;
+      }
 
   -- what a pointer becomes
   next_plain : (nat_lt 0 (1 + k) && (nat_lt 0 (1 + k) && nat_lt 0 (1 + k))) ≡ true
@@ -131,10 +161,13 @@ module _ (k width : ℕ) (some : 0 < k) (bits : 0 < width) where
         (
           record { some = omega arith; wide = refl; word = unless_written 0 (pow_pos (1 + k)) },
           (
-            record { some = bits; wide = refl; word = data_written },
+            record { some = omega arith; wide = refl; word = record { plain = refl; sized = refl; wide = refl } },
             (
               record { some = omega arith; wide = refl; word = record { plain = refl; sized = refl; wide = refl } },
-              (record { some = omega arith; wide = refl; word = record { plain = refl; sized = refl; wide = refl } }, tt),
+              (
+                record { some = omega arith; wide = refl; word = head_written },
+                (record { some = omega arith; wide = refl; word = passes_written }, tt),
+              ),
             ),
           ),
         ),
@@ -154,7 +187,7 @@ module _ (k width : ℕ) (some : 0 < k) (bits : 0 < width) where
           enable = record { plain = refl; sized = refl; wide = refl };
           next = record { plain = next_plain; sized = next_sized; wide = refl };
         },
-        tt,
+        (record { some = bits; wide = refl; enable = record { plain = refl; sized = refl; wide = refl }; next = front_written }, tt),
       ),
     );
     memories = (

@@ -1,8 +1,8 @@
 -- Words in the memory of a queue, where one more comes and where the first goes.
-use Rattle.std.proofs.Common.{◌≡◌, ◌≢◌, ℕ, suc, ◌+◌, ◌%◌, ◌/◌, ◌^◌, ◌<◌, ◌≤◌, ◌==◌, Bool, true, false, not, nat_lt, List, [], ◌∷◌, ◌++◌, length, drop, refl, sym, ap, ◌∙◌, arith, length-append, length-set, get_or-set_same, get_or-set_other, mod-eq_of_lt}
-use Rattle.std.specs.Prelude.{slice_index, slice_set}
+use Rattle.std.proofs.Common.{◌≡◌, ◌≢◌, ℕ, suc, ◌+◌, ◌%◌, ◌/◌, ◌^◌, ◌<◌, ◌≤◌, ◌==◌, Bool, true, false, not, ◌&&◌, nat_lt, List, [], ◌∷◌, ◌++◌, length, drop, refl, sym, ap, ◌∙◌, arith, length-append, length-set, get_or-set_same, get_or-set_other, mod-eq_of_lt}
+use Rattle.std.specs.Prelude.{if◌then◌else◌, slice_index, slice_set}
 use Rattle.std.proofs.lemmas.List.{get_or-append-add, get_or_append_left}
-use Rattle.std.proofs.lemmas.Bool.{ltb-true, ltb-false, false≢true}
+use Rattle.std.proofs.lemmas.Bool.{ltb-true, ltb-false, eqb-true, eq-eqb, false≢true}
 use Rattle.std.proofs.lemmas.Nat.{pow_pos, mod_below}
 use Rattle.tta_queue.specs.Laws.{Stand}
 use Rattle.tta_queue.proofs.Round.{mod_add, places_differ, low_bits}
@@ -87,3 +87,40 @@ none_stand k memory size = record {
   size = size;
   places = λ i less. absurd (omega (arith, less));
 }
+
+-- The word that is the first after a clock: the one that comes, where it goes to the place of the first, and else the one that stands there
+-- before it comes.
+pub first_after : (k head tail word : ℕ) (memory words : List ℕ) (comes : Bool) → (comes ≡ true → length words < 2 ^ k)
+    → Stand k head tail memory words → (w : ℕ) (rest : List ℕ) → words ++ (if comes then word ∷ [] else []) ≡ w ∷ rest
+    → (if comes && (tail / 2 ^ 0 % 2 ^ k == head / 2 ^ 0 % 2 ^ k) then word else slice_index memory (head / 2 ^ 0 % 2 ^ k)) ≡ w
+first_after k head tail word memory [] true room stand w rest is =
+    let same : tail ≡ head = stand.ends ∙ ap (λ n. n % 2 ^ (1 + k)) (none_on stand.first) ∙ sym stand.starts in
+    let here : (tail / 2 ^ 0 % 2 ^ k == head / 2 ^ 0 % 2 ^ k) ≡ true =
+    eq-eqb (tail / 2 ^ 0 % 2 ^ k) (head / 2 ^ 0 % 2 ^ k) (ap (λ n. n / 2 ^ 0 % 2 ^ k) same) in
+    ap (λ b. if b then word else slice_index memory (head / 2 ^ 0 % 2 ^ k)) here ∙ cc
+  where
+    none_on : (n : ℕ) → n + 0 ≡ n
+    none_on n = omega arith
+first_after k head tail word memory [] false room stand w rest is = absurd cc
+first_after k head tail word memory (x ∷ xs) comes room stand w rest is = by comes refl (tail / 2 ^ 0 % 2 ^ k == head / 2 ^ 0 % 2 ^ k) refl where
+  here : slice_index memory (head / 2 ^ 0 % 2 ^ k) ≡ w
+  here =
+      ap (λ n. slice_index memory (n / 2 ^ 0 % 2 ^ k)) stand.starts
+      ∙ ap (slice_index memory) (low_bits stand.first k ∙ ap (λ n. n % 2 ^ k) (none_more stand.first)) ∙ stand.places 0 (omega arith) ∙ cc
+    where
+      none_more : (n : ℕ) → n ≡ n + 0
+      none_more n = omega arith
+
+  apart : length (x ∷ xs) < 2 ^ k → tail / 2 ^ 0 % 2 ^ k ≢ head / 2 ^ 0 % 2 ^ k
+  apart less same = places_differ stand.first 0 (length (x ∷ xs)) (2 ^ k) (omega arith) less
+      (ap (λ n. n % 2 ^ k) (none_on stand.first) ∙ sym (low_bits stand.first k) ∙ ap (λ n. n / 2 ^ 0 % 2 ^ k) (sym stand.starts) ∙ sym same
+      ∙ ap (λ n. n / 2 ^ 0 % 2 ^ k) stand.ends ∙ low_bits (stand.first + length (x ∷ xs)) k)
+    where
+      none_on : (n : ℕ) → n + 0 ≡ n
+      none_on n = omega arith
+
+  by : (c : Bool) → comes ≡ c → (b : Bool) → (tail / 2 ^ 0 % 2 ^ k == head / 2 ^ 0 % 2 ^ k) ≡ b
+      → (if c && b then word else slice_index memory (head / 2 ^ 0 % 2 ^ k)) ≡ w
+  by true comes_is true same = absurd (apart (room comes_is) (eqb-true (tail / 2 ^ 0 % 2 ^ k) (head / 2 ^ 0 % 2 ^ k) same))
+  by true comes_is false same = here
+  by false comes_is b same = here

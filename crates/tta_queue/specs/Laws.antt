@@ -20,9 +20,10 @@ pub record Stand (k head tail : ℕ) (memory words : List ℕ) : Type 0 where
   pub size : length memory ≡ 2 ^ k
   pub places : (i : ℕ) → i < length words → slice_index memory ((first + i) % 2 ^ k) ≡ slice_index words i
 
--- A queue of 2^k words has these in it.
-abbrev pub HasInside : (k : ℕ) → Held Pin Store → (words : List ℕ) → Type 0
-HasInside k h words = Stand k (h.words Head) (h.words Tail) (h.memories Words) words
+-- A queue of 2^k words has these in it: they stand in its memory, and the first is in the register of the first word.
+pub record HasInside (k : ℕ) (h : Held Pin Store) (words : List ℕ) : Type 0 where
+  pub stand : Stand k (h.words Head) (h.words Tail) (h.memories Words) words
+  pub first : (w : ℕ) (rest : List ℕ) → words ≡ w ∷ rest → h.words OutData ≡ w
 
 -- whether a word is taken at a clock, and whether one is given
 abbrev pub takes : (Pin → ℕ) → Bool

@@ -1,6 +1,5 @@
 -- Texts that are put piece by piece.
 use Rattle.std.proofs.Common.{◌≡◌, ℕ, List, [], ◌++◌, sym, ap, append_assoc, ◌∙◌}
-use Rattle.std.specs.Prelude.{codes}
 use Rattle.std.proofs.lemmas.List.{append-nil}
 
 -- a text that is put last
@@ -11,9 +10,12 @@ alone old new a put = put ∙ ap (λ (t : List ℕ). old ++ t) (sym (append-nil 
 pub four_ends : (a b c d e : List ℕ) → (((a ++ b) ++ c) ++ d) ++ e ≡ a ++ (b ++ (c ++ (d ++ e)))
 four_ends a b c d e = append_assoc ((a ++ b) ++ c) d e ∙ append_assoc (a ++ b) c (d ++ e) ∙ append_assoc a b (c ++ (d ++ e))
 
--- what follows a part of a name
-pub part_then : (low width rest : List ℕ)
-    → (low ++ (codes "+:" ++ (width ++ codes "]"))) ++ rest ≡ low ++ (codes "+:" ++ (width ++ (codes "]" ++ rest)))
-part_then low width rest =
-    append_assoc low (codes "+:" ++ (width ++ codes "]")) rest
-    ∙ ap (λ (t : List ℕ). low ++ (codes "+:" ++ t)) (append_assoc width (codes "]") rest)
+-- a piece of which three end
+pub three_ends : (a b c d : List ℕ) → ((a ++ b) ++ c) ++ d ≡ a ++ (b ++ (c ++ d))
+three_ends a b c d = append_assoc (a ++ b) c d ∙ append_assoc a b (c ++ d)
+
+-- a piece with two within it, of which three end
+pub two_end : (a m b c d e : List ℕ) → ((a ++ (m ++ (b ++ c))) ++ d) ++ e ≡ a ++ (m ++ (b ++ (c ++ (d ++ e))))
+two_end a m b c d e =
+    append_assoc (a ++ (m ++ (b ++ c))) d e ∙ append_assoc a (m ++ (b ++ c)) (d ++ e)
+    ∙ ap (λ (t : List ℕ). a ++ t) (append_assoc m (b ++ c) (d ++ e) ∙ ap (λ (t : List ℕ). m ++ t) (append_assoc b c (d ++ e)))

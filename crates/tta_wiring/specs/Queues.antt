@@ -1,6 +1,6 @@
 -- The text of a queue as a module.
 use Rattle.std.specs.Prelude.{ℕ, false, List, [], ◌++◌, codes, decimal}
-use Rattle.tta_queue.specs.Queue.{Pin, InValid, InData, OutReady, IsReset, Head, Tail, Fill, InReady, OutValid, OutData, Takes, Gives, Store, queue_of}
+use Rattle.tta_queue.specs.Queue.{Pin, InValid, InData, OutReady, IsReset, Head, Tail, Fill, InReady, OutValid, OutData, Takes, Gives, NextHead, Passes, Store, queue_of}
 use Rattle.tta_verilog.specs.Expressions.{Names}
 use Rattle.tta_verilog.specs.Circuits.{parts_text}
 
@@ -22,6 +22,8 @@ pin_name OutValid = codes "has_word"
 pin_name OutData = codes "first"
 pin_name Takes = codes "takes"
 pin_name Gives = codes "gives"
+pin_name NextHead = codes "next_head"
+pin_name Passes = codes "passes"
 
 -- all names of a queue
 abbrev pub pin_names : Names Pin Store

@@ -73,6 +73,10 @@ core_wires feeds core =
     ∷ record { name = Puts core; width = 1; word = Both (Signal (Cycle core)) (Signal (Valid core)) }
     ∷ record { name = Takes core; width = 1; word = Both (Signal (Cycle core)) (Signal (Asks core)) } ∷ []
 
+-- whether a word of a core stands there for the outside: it has one, and each queue that it feeds has room
+abbrev pub word_valid : (core : ℕ) → Expr Joint ⊥
+word_valid core = Both (Signal (Valid core)) (Signal (Rooms core))
+
 -- What the queue before a core is offered: what the core's feeder puts out (`fed` of AreWired), and nothing where it has none (`unfed`).
 abbrev pub queue_wires : ℕ × Option ℕ → List (Wire Joint ⊥)
 queue_wires q =

@@ -1,13 +1,12 @@
 -- The text of the module that joins cores by queues.
 use Rattle.std.specs.Prelude.{ℕ, Bool, if◌then◌else◌, List, [], ◌++◌, Option, codes}
 use Rattle.std.specs.List.{flat_map, enumerate_from}
-use Rattle.tta_circuit.specs.Circuit.{Signal, Both}
 use Rattle.tta_verilog.specs.Expressions.{expression}
 use Rattle.tta_verilog.specs.Circuits.{range, wire_text}
 use Rattle.tta_wiring.specs.declared.part.Part.{Part}
 use Rattle.tta_wiring.specs.declared.part.Part.TheVariants as part
 use Rattle.tta_wiring.specs.Queues.{numbered}
-use Rattle.tta_wiring.specs.Signals.{Joint, Valid, Rooms, CorePort, joint_name, joint_names, core_wires, queue_wires, port_name, core_joints, queue_joints}
+use Rattle.tta_wiring.specs.Signals.{Joint, CorePort, joint_name, joint_names, core_wires, queue_wires, word_valid, port_name, core_joints, queue_joints}
 
 -- ---- its ports
 
@@ -33,10 +32,10 @@ no_ports core = numbered (codes ";\nwire [0:0] out_ready_") core ++ codes " = 1'
 unfoldable pub ports_text : ℕ × Bool → List ℕ
 ports_text c = numbered (codes "output [0:0] halted_") c.0 ++ (if c.1 then word_ports c.0 else no_ports c.0)
 
--- what the ports of words show: a word stands there for the outside where it can go to all queues that the core feeds
+-- what the ports of words show
 unfoldable pub word_shown : (core : ℕ) → List ℕ
 word_shown core =
-    numbered (codes "assign out_valid_") core ++ (codes " = " ++ (expression joint_names (Both (Signal (Valid core)) (Signal (Rooms core)))
+    numbered (codes "assign out_valid_") core ++ (codes " = " ++ (expression joint_names (word_valid core)
     ++ (numbered (codes ";\nassign out_data_") core ++ (numbered (codes " = word_") core ++ codes ";\n"))))
 
 -- what the ports of a core show

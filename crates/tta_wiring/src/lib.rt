@@ -4,6 +4,7 @@
 mod joining;
 mod part;
 mod queue;
+mod registers;
 mod top;
 mod wiring;
 

@@ -1,14 +1,14 @@
 //! The module of a queue.
 
-ghost use Rattle.std.specs.Prelude.{◌≡◌, ◌≤◌, ◌+◌, ◌++◌, true, false, codes, length, OnOk};
+ghost use Rattle.std.specs.Prelude.{◌≡◌, ◌≤◌, ◌+◌, ◌++◌, codes, length, OnOk};
 ghost use Rattle.std.specs.List.{flat_map, enumerate_from, AllByRecursion};
-ghost use Rattle.tta_circuit.specs.Circuit as c;
 ghost use Rattle.tta_queue.specs.Queue as q;
 ghost use Rattle.tta_verilog.specs.Expressions as e;
 ghost use Rattle.tta_verilog.specs.Circuits as v;
 ghost use Rattle.tta_wiring.specs.Queues.{numbered, pin_names, queue_parts, queue_ports};
 ghost use Rattle.tta_wiring.specs.Queues.{queue_shown, queue_text};
 
+use crate::registers::{push_address, push_declared, push_taken};
 use std::alloc::AllocError;
 use tta_list::power_of_two;
 use tta_verilog::{push_constant, push_number, push_range, push_text};
@@ -20,67 +20,6 @@ pub fn push_numbered(out: &mut Vec<u8>, what: &[u8], n: u8) -> Result<(), AllocE
 {
     push_text(out, what)?;
     push_number(out, u64::from(n))
-}
-
-// ---- registers
-
-/// Puts the registers that count words, as they are declared.
-fn push_declared(out: &mut Vec<u8>, k: u8) -> Result<(), AllocError>
-    ensures { OnOk result (out.new.items ≡ out.old.items
-        ++ flat_map (v.register_text pin_names true) (q.queue_of k 32).registers) }
-{
-    push_text(out, b"reg ")?;
-    push_range(out, 1 + u32::from(k))?;
-    push_text(out, b"head;\nreg ")?;
-    push_range(out, 1 + u32::from(k))?;
-    push_text(out, b"tail;\n")
-}
-
-/// Puts what such a register takes: 0 where all begins anew, and else its word and one more.
-#[tactic(auto, unfolding(tta_verilog::specs::Expressions::choice, tta_verilog::specs::Expressions::between))]
-fn push_next(out: &mut Vec<u8>, k: u8, name: &[u8]) -> Result<(), AllocError>
-    ensures { OnOk result (out.new.items ≡ out.old.items
-        ++ e.choice (codes "reset") (e.constant (1 + k) 0)
-        (e.between (codes "+") name.now (e.constant (1 + k) 1))) }
-{
-    push_text(out, b"(reset)?(")?;
-    push_constant(out, 1 + u32::from(k), 0)?;
-    push_text(out, b"):(")?;
-    push_text(out, name)?;
-    push_text(out, b")+(")?;
-    push_constant(out, 1 + u32::from(k), 1)?;
-    push_text(out, b")")
-}
-
-/// Puts what the first of the registers takes at a clock; it counts the words that are given.
-#[tactic(auto, unfolding(tta_verilog::specs::Expressions::between))]
-fn push_head(out: &mut Vec<u8>, k: u8) -> Result<(), AllocError>
-    ensures { OnOk result (out.new.items ≡ out.old.items
-        ++ v.next_text pin_names (q.counter k q.Head q.Gives)) }
-{
-    push_text(out, b"always @(posedge clk) if ((reset)||(gives)) head <= ")?;
-    push_next(out, k, b"head")?;
-    push_text(out, b";\n")
-}
-
-/// Puts what the other takes; it counts the words that are taken.
-#[tactic(auto, unfolding(tta_verilog::specs::Expressions::between))]
-fn push_tail(out: &mut Vec<u8>, k: u8) -> Result<(), AllocError>
-    ensures { OnOk result (out.new.items ≡ out.old.items
-        ++ v.next_text pin_names (q.counter k q.Tail q.Takes)) }
-{
-    push_text(out, b"always @(posedge clk) if ((reset)||(takes)) tail <= ")?;
-    push_next(out, k, b"tail")?;
-    push_text(out, b";\n")
-}
-
-/// Puts what both take at a clock.
-fn push_counters(out: &mut Vec<u8>, k: u8) -> Result<(), AllocError>
-    ensures { OnOk result (out.new.items ≡ out.old.items
-        ++ flat_map (v.register_text pin_names false) (q.queue_of k 32).registers) }
-{
-    push_head(out, k)?;
-    push_tail(out, k)
 }
 
 // ---- wires
@@ -110,21 +49,6 @@ fn push_unless(out: &mut Vec<u8>, k: u8, name: &[u8], count: u64) -> Result<(), 
     push_text(out, b")));\n")
 }
 
-/// Puts the first word.
-#[tactic(auto, unfolding(tta_verilog::specs::Circuits::wire_line, tta_verilog::specs::Expressions::reading, tta_verilog::specs::Expressions::part))]
-fn push_first(out: &mut Vec<u8>, k: u8) -> Result<(), AllocError>
-    ensures { OnOk result (out.new.items ≡ out.old.items ++ v.wire_line (codes "first") 32
-        (e.expression pin_names (c.Read q.Words (c.Slice 0 k (c.Signal q.Head))))) }
-{
-    push_text(out, b"wire ")?;
-    push_range(out, 32)?;
-    push_text(out, b"first = words[head[")?;
-    push_number(out, 0)?;
-    push_text(out, b"+:")?;
-    push_number(out, u64::from(k))?;
-    push_text(out, b"]];\n")
-}
-
 /// Puts a wire that says whether two signals are set.
 #[tactic(auto, unfolding(tta_verilog::specs::Circuits::wire_line, tta_verilog::specs::Expressions::between))]
 fn push_both(out: &mut Vec<u8>, name: &[u8], one: &[u8], other: &[u8]) -> Result<(), AllocError>
@@ -141,6 +65,36 @@ fn push_both(out: &mut Vec<u8>, name: &[u8], one: &[u8], other: &[u8]) -> Result
     push_text(out, b");\n")
 }
 
+/// Puts where the first word stands after the clock.
+#[tactic(auto, unfolding(tta_verilog::specs::Circuits::wire_line, tta_verilog::specs::Expressions::choice, tta_verilog::specs::Expressions::between))]
+fn push_next_head(out: &mut Vec<u8>, k: u8) -> Result<(), AllocError>
+    ensures { OnOk result (out.new.items ≡ out.old.items
+        ++ v.wire_line (codes "next_head") (1 + k) (e.choice (codes "gives")
+        (e.between (codes "+") (codes "head") (e.constant (1 + k) 1)) (codes "head"))) }
+{
+    push_text(out, b"wire ")?;
+    push_range(out, 1 + u32::from(k))?;
+    push_text(out, b"next_head = (gives)?((head)+(")?;
+    push_constant(out, 1 + u32::from(k), 1)?;
+    push_text(out, b")):head;\n")
+}
+
+/// Puts whether the word that is taken goes there.
+#[tactic(auto, unfolding(tta_verilog::specs::Circuits::wire_line, tta_verilog::specs::Expressions::between))]
+fn push_passes(out: &mut Vec<u8>, k: u8) -> Result<(), AllocError>
+    ensures { OnOk result (out.new.items ≡ out.old.items
+        ++ v.wire_line (codes "passes") 1 (e.between (codes "&&") (codes "takes")
+        (e.between (codes "==") (e.part (codes "tail") 0 k) (e.part (codes "next_head") 0 k)))) }
+{
+    push_text(out, b"wire ")?;
+    push_range(out, 1)?;
+    push_text(out, b"passes = (takes)&&((")?;
+    push_address(out, k, b"tail")?;
+    push_text(out, b")==(")?;
+    push_address(out, k, b"next_head")?;
+    push_text(out, b"));\n")
+}
+
 /// Puts the wires.
 fn push_wires(out: &mut Vec<u8>, k: u8) -> Result<(), AllocError>
     requires { k ≤ 16 }
@@ -150,9 +104,10 @@ fn push_wires(out: &mut Vec<u8>, k: u8) -> Result<(), AllocError>
     push_fill(out, k)?;
     push_unless(out, k, b"has_room", power_of_two(u32::from(k)))?;
     push_unless(out, k, b"has_word", 0)?;
-    push_first(out, k)?;
     push_both(out, b"takes", b"in_valid", b"has_room")?;
-    push_both(out, b"gives", b"has_word", b"out_ready")
+    push_both(out, b"gives", b"has_word", b"out_ready")?;
+    push_next_head(out, k)?;
+    push_passes(out, k)
 }
 
 // ---- memory
@@ -189,16 +144,14 @@ fn push_memories(out: &mut Vec<u8>, k: u8) -> Result<(), AllocError>
 }
 
 /// Puts where it is written: the word that is taken goes to the place behind the last.
-#[tactic(auto, unfolding(tta_verilog::specs::Circuits::write_line, tta_verilog::specs::Expressions::part))]
+#[tactic(auto, unfolding(tta_verilog::specs::Circuits::write_line))]
 fn push_stores(out: &mut Vec<u8>, k: u8) -> Result<(), AllocError>
     ensures { OnOk result (out.new.items ≡ out.old.items
         ++ flat_map (v.store_text pin_names) (q.queue_of k 32).memories) }
 {
-    push_text(out, b"always @(posedge clk) if (takes) words[tail[")?;
-    push_number(out, 0)?;
-    push_text(out, b"+:")?;
-    push_number(out, u64::from(k))?;
-    push_text(out, b"]] <= in_data;\n")
+    push_text(out, b"always @(posedge clk) if (takes) words[")?;
+    push_address(out, k, b"tail")?;
+    push_text(out, b"] <= in_data;\n")
 }
 
 // ---- the module
@@ -211,7 +164,7 @@ fn push_parts(out: &mut Vec<u8>, k: u8) -> Result<(), AllocError>
     push_declared(out, k)?;
     push_memories(out, k)?;
     push_wires(out, k)?;
-    push_counters(out, k)?;
+    push_taken(out, k)?;
     push_stores(out, k)
 }
 

@@ -22,4 +22,4 @@ returns c =
     then_more _ _ _ declared r1 c.in_ok-push_declared.ensures
     (then_more _ _ _ memories r2 c.in_ok-push_memories.ensures
     (then_more _ _ _ wires r3 c.in_ok-push_wires.ensures
-    (then_more _ _ _ next stores c.in_ok-push_counters.ensures last)))) c.push_stores.ensures
+    (then_more _ _ _ next stores c.in_ok-push_taken.ensures last)))) c.push_stores.ensures

@@ -3,7 +3,7 @@ use Rattle.std.specs.Prelude.{codes}
 use Rattle.tta_list.proofs.Lists.{then_more}
 use Rattle.tta_list.proofs.Results.{onward}
 use Rattle.tta_verilog.specs.Expressions.{between, choice, constant}
-use Rattle.tta_wiring.proofs.queue.push_head.Goals as goal
+use Rattle.tta_wiring.proofs.registers.push_head.Goals as goal
 
 pub returns : goal.returns
 unfolding between
