@@ -1,0 +1,4 @@
+mod Telling
+pub mod Moving
+mod Resting
+pub mod Finishing
