@@ -1,0 +1,6 @@
+mod Wired
+mod Ordered
+mod Running
+mod Agreeing
+mod Settling
+mod Finishing

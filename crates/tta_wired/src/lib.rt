@@ -1,0 +1,6 @@
+//! The module that joins cores by queues, as `rtl net` prints it: what it does.
+#![tactic(auto)]
+
+mod laws;
+
+pub use laws::{net_agrees, net_finishes, net_is_ordered, net_is_wired, net_runs, net_settles};
