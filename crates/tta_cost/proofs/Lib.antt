@@ -1,0 +1,12 @@
+pub mod Depths
+pub mod Chains
+pub mod Layouts
+pub mod Shares
+pub mod Shorts
+pub mod Listed
+pub mod Wide
+pub mod Tally
+pub mod RowSteps
+pub mod WireSteps
+pub mod Told
+pub mod DepthLaws

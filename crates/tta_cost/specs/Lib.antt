@@ -1,0 +1,9 @@
+pub mod Cited
+pub mod CostText
+pub mod Tally
+pub mod Operations
+pub mod Depths
+pub mod Laws
+pub mod Chains
+pub mod Offers
+pub mod Rows
