@@ -22,7 +22,7 @@ bits_text_is zero n = refl
 bits_text_is (suc w) n = ap (λ (t : List ℕ). digit (n / 2 ^ w % 2 == 1) ++ t) (bits_text_is w n)
 
 -- a bit of bytes is that of the byte where it stands
-bit_is : (bytes : List ℕ) (at : ℕ) → get_or (bits_in bytes) at false ≡ bit_in bytes at
+pub bit_is : (bytes : List ℕ) (at : ℕ) → get_or (bits_in bytes) at false ≡ bit_in bytes at
 bit_is [] at = refl
 bit_is (b ∷ bs) zero = refl
 bit_is (b ∷ bs) (suc zero) = refl
@@ -38,7 +38,7 @@ bit_is (b ∷ bs) (suc (suc (suc (suc (suc (suc (suc (suc at)))))))) =
     bit_is bs at ∙ sym (rw (whole, part) refl)
 
 -- bits from one on
-bits_from : (bits : List Bool) (at w : ℕ) → at + suc w ≤ length bits → take (suc w) (drop at bits) ≡ get_or bits at false ∷ take w (drop (at + 1) bits)
+pub bits_from : (bits : List Bool) (at w : ℕ) → at + suc w ≤ length bits → take (suc w) (drop at bits) ≡ get_or bits at false ∷ take w (drop (at + 1) bits)
 bits_from [] at w inside = absurd (omega arith)
 bits_from (b ∷ bits) zero w inside = refl
 bits_from (b ∷ bits) (suc at) w inside =

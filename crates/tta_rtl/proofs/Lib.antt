@@ -1,5 +1,7 @@
 mod Choices
+mod CodeFiles
 mod Digits
+mod Filled
 mod Layouts
 mod Modules
 mod Pieces

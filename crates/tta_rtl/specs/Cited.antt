@@ -12,8 +12,9 @@ pub use Rattle.tta_arch.specs.declared.parts.Op.{Op}
 pub use Rattle.tta_arch.specs.declared.parts.Op.TheVariants.{Out, Set, Stf, Stw, Take}
 pub use Rattle.tta_arch.specs.declared.parts.Template.{Template}
 pub use Rattle.tta_arch.specs.declared.parts.UnitOp.{UnitOp}
-pub use Rattle.tta_circuit.specs.Circuit.{Below, Both, Circuit, Const, Equal, Join, Plus, Select, Signal, Slice, WritePort}
+pub use Rattle.tta_circuit.specs.Circuit.{Below, Both, Circuit, Const, Equal, Join, Memory, Plus, Select, Signal, Slice, WritePort}
 pub use Rattle.tta_code.specs.Whole.{data_in}
+pub use Rattle.tta_code.specs.declared.code.Code.{Code}
 pub use Rattle.tta_code.specs.declared.whole.Datum.{Datum}
 pub use Rattle.tta_hardware.specs.Chains.{any_of, first_of}
 pub use Rattle.tta_hardware.specs.Hardware.{all_fields, bus_fields, bus_wires, circuit_of, circuit_with, code_words, load_registers, register_names, result_registers, rom, store_port, unit_registers, unit_wires, wire, wire_names, with_bits}

@@ -4,4 +4,6 @@ pub mod Parts
 pub mod Functions
 pub mod Memories
 pub mod Kept
+pub mod CodeFile
 pub mod Module
+pub mod Laws

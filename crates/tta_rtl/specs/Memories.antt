@@ -1,8 +1,8 @@
 -- The text of the memories: the bits of code, and where the spaces are written.
-use Rattle.std.specs.Prelude.{ℕ, zero, suc, ◌+◌, ◌-◌, ◌*◌, ◌/◌, ◌%◌, ◌^◌, ◌==◌, Bool, false, if◌then◌else◌, List, [], ◌++◌, map, codes, length, slice_get}
+use Rattle.std.specs.Prelude.{◌≡◌, ◌≤◌, ◌<◌, ℕ, zero, suc, ◌+◌, ◌-◌, ◌*◌, ◌/◌, ◌%◌, ◌^◌, ◌==◌, Bool, false, if◌then◌else◌, List, [], ◌++◌, map, codes, length, slice_get}
 use Rattle.std.specs.List.{flat_map, enumerate_from}
 use Rattle.std.specs.Option.{option_map_or}
-use Rattle.tta_rtl.specs.Cited.{Machine, numbers, word_width, bits_in, field, Signal, Const, Both, Below, WritePort, Store, Starts, Goes, Expression, any_of, first_of, nothing, first_line, array_start}
+use Rattle.tta_rtl.specs.Cited.{Machine, Code, code_words, numbers, word_width, bits_in, field, Signal, Const, Both, Below, WritePort, Store, Starts, Goes, Expression, any_of, first_of, nothing, first_line, array_start}
 use Rattle.tta_hardware.specs.Signals.{Signal as Named}
 use Rattle.tta_rtl.specs.declared.starts.UnitWord.{UnitWord}
 use Rattle.tta_rtl.specs.declared.starts.UnitWord.TheVariants as word
@@ -30,6 +30,12 @@ words_in m bytes words = map (λ k. field (k * word_width m) (word_width m) (bit
 -- how many bytes stand before the instructions of an image with so many data
 abbrev pub bytes_before : (count : ℕ) → ℕ
 bytes_before count = if count == 0 then 48 else 52 + 8 * count
+
+-- Some bytes hold the bits of the words of code, one word after another.
+pub record AreCodeBytes (m : Machine) (code : Code) (bytes : List ℕ) : Type 0 where
+  pub words : words_in m bytes (length code.words) ≡ code_words m code
+  pub inside : length code.words * word_width m ≤ 8 * length bytes
+  pub few : 8 * length bytes < 2 ^ 64
 
 -- ---- the spaces
 

@@ -1,10 +1,15 @@
 -- The text of a machine with its code and data as a module.
-use Rattle.std.specs.Prelude.{ℕ, Bool, nat_lt, if◌then◌else◌, List, [], ◌++◌, codes, length, replicate}
+use Rattle.std.specs.Prelude.{ℕ, ◌^◌, Bool, true, false, nat_lt, if◌then◌else◌, List, [], ◌++◌, codes, length, replicate}
 use Rattle.std.specs.List.{flat_map}
-use Rattle.tta_rtl.specs.Cited.{over, Units, Op, Out, Take, Stw, Stf, Machine, same_op, data_in, Circuit, WritePort, Store, all_ops, circuit_of, store_port, range, memory_text, parts_text, write_line, names_of, text_of}
+use Rattle.tta_rtl.specs.Cited.{over, Units, Op, Out, Take, Stw, Stf, Machine, same_op, data_in, Circuit, Memory, WritePort, Store, all_ops, circuit_of, store_port, range, register_text, store_text, wire_text, write_line, names_of, text_of}
 use Rattle.tta_code.specs.Whole.{Whole}
 use Rattle.tta_hardware.specs.Signals.{Signal as Named}
+use Rattle.tta_verilog.specs.Circuits.{array_text, function_text}
+use Rattle.tta_names.specs.Names.{is_constant}
+use Rattle.tta_rtl.specs.declared.rom.Rom.{Rom}
+use Rattle.tta_rtl.specs.declared.rom.Rom.TheVariants as rom
 use Rattle.tta_rtl.specs.Functions.{functions_text}
+use Rattle.tta_rtl.specs.CodeFile.{filed_text}
 
 -- ---- the ports
 
@@ -54,9 +59,18 @@ abbrev pub before_parts : Machine → (name : List ℕ) → (gives takes : Bool)
 before_parts m name gives takes =
     head_text name gives takes ++ (common_ports m ++ (out_ports gives ++ (in_ports takes ++ codes "integer k;\n")))
 
+-- the memory of the code, with its words in the text or in a file
+abbrev pub code_text : Machine → Rom → Memory Named Store → List ℕ
+code_text m rom.Text x = function_text (names_of m) x
+code_text m rom.File x = filed_text x.width (2 ^ m.control.address)
+
+-- a memory of a circuit
+abbrev pub memory_of : Machine → Rom → Memory Named Store → List ℕ
+memory_of m r x = if is_constant x.name then code_text m r x else array_text (names_of m) x
+
 -- the memories of a circuit
-abbrev pub memories_text : Machine → Circuit Named Store → List ℕ
-memories_text m c = flat_map (memory_text (names_of m)) c.memories
+abbrev pub memories_text : Machine → Rom → Circuit Named Store → List ℕ
+memories_text m r c = flat_map (memory_of m r) c.memories
 
 -- where a memory is written
 abbrev pub store_line : Machine → (name : List ℕ) → WritePort Named Store → List ℕ
@@ -68,22 +82,30 @@ stores_text m =
     store_line m (codes "data") (store_port m m.data_words (same_op Stw))
     ++ store_line m (codes "frame") (store_port m m.frame_words (same_op Stf))
 
--- the parts of a circuit, with functions of the operations that the machine offers
-abbrev pub core_text : Units → Machine → Circuit Named Store → List ℕ
-core_text u m c = parts_text (names_of m) (functions_text u m) c
+-- The parts of a circuit: the registers are declared, then come the memories, functions of the operations that the machine offers, the
+-- wires in their order, what each register takes at a clock, and where memories are written.
+abbrev pub core_text : Units → Machine → Rom → Circuit Named Store → List ℕ
+core_text u m r c =
+    flat_map (register_text (names_of m) true) c.registers ++ (memories_text m r c ++ (functions_text u m
+    ++ (flat_map (wire_text (names_of m)) c.wires
+    ++ (flat_map (register_text (names_of m) false) c.registers ++ flat_map (store_text (names_of m)) c.memories))))
 
--- a circuit of a machine as a module of this name with these ports
+-- a circuit of a machine as a module of this name with these ports, with the words of code in the text or in a file
+abbrev pub module_with : Units → Machine → Rom → (name : List ℕ) → (gives takes : Bool) → Circuit Named Store → List ℕ
+module_with u m r name gives takes c = before_parts m name gives takes ++ (core_text u m r c ++ shown_text gives takes)
+
+-- the same with the words in the text
 abbrev pub module_of : Units → Machine → (name : List ℕ) → (gives takes : Bool) → Circuit Named Store → List ℕ
-module_of u m name gives takes c = before_parts m name gives takes ++ (core_text u m c ++ shown_text gives takes)
+module_of u m name gives takes c = module_with u m rom.Text name gives takes c
 
 -- a circuit of a machine as a module alone, which has the ports that the machine's operations ask for
-abbrev pub module_text : Units → Machine → Circuit Named Store → List ℕ
-module_text u m c = module_of u m (codes "tta_core") (offers m Out) (offers m Take) c
+abbrev pub module_text : Units → Machine → Rom → Circuit Named Store → List ℕ
+module_text u m r c = module_with u m r (codes "tta_core") (offers m Out) (offers m Take) c
 
 -- the words that the data space begins with
 abbrev pub first_words : Machine → Whole → List ℕ
 first_words m whole = over (data_in whole) (replicate m.data_words 0)
 
 -- the circuit of a machine with code and data as a module
-abbrev pub rtl_of : Units → Machine → Whole → List ℕ
-rtl_of u m whole = module_text u m (circuit_of m whole.code (first_words m whole))
+abbrev pub rtl_of : Units → Machine → Rom → Whole → List ℕ
+rtl_of u m r whole = module_text u m r (circuit_of m whole.code (first_words m whole))

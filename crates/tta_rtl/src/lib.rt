@@ -2,11 +2,14 @@
 #![tactic(auto)]
 
 mod buses;
+mod bytes;
+mod code_file;
 mod coming;
 mod control;
 mod dues;
 mod fields;
 mod functions;
+mod laws;
 mod loads;
 mod longs;
 mod on;
@@ -16,6 +19,7 @@ mod ports;
 mod reach;
 mod registers;
 mod results;
+mod rom;
 mod shorts;
 mod spaces;
 mod starts;
@@ -25,5 +29,8 @@ mod unit_wires;
 mod units;
 mod whole;
 
+pub use code_file::write_code_file;
+pub use laws::{file_is_full, file_reads_alike};
+pub use rom::Rom;
 pub use spaces::push_empty_memory;
 pub use whole::{Module, offers, push_core, write_rtl};

@@ -17,7 +17,7 @@ use tta_arch::Machine;
 use tta_verilog::{push_bit, push_constant, push_number, push_range, push_text};
 
 /// Whether a bit of some bytes is set, the highest of each byte first.
-fn bit_at(bytes: &[u8], at: usize) -> bool
+pub fn bit_at(bytes: &[u8], at: usize) -> bool
     ensures { result ≡ bit_in bytes.now at }
 {
     match bytes.get(at / 8) {

@@ -11,7 +11,7 @@ returns g c =
     let core = c.args.core.now in
     let m = core.on.now.m.now in
     let U = stated (λ v. (goal.OpUnit-dyn g v).unit_meaning v.1) core.units.now in
-    let parts = core_text U m (circuit_with m (words_in m core.body.now core.words) core.first.now) in
+    let parts = core_text U m core.rom (circuit_with m (words_in m core.body.now core.words) core.first.now) in
     let shown = shown_text c.args.gives c.args.takes in
     onward c.push_shown.result (λ last.
     then_more _ _ _ (before_parts m c.args.name.now c.args.gives c.args.takes) (parts ++ shown) c.in_ok-push_before.ensures
