@@ -1,6 +1,6 @@
 //# code : the script that shows the code once, and then where a state is in it
-const blockAt=address=>joined.code.find(b=>address>=b.address&&address<b.address+b.cycles);
-const codeRows=new Map(),bySource=joined.code.length>0;
+const blockAt=address=>origins.find(b=>address>=b.address&&address<b.address+b.cycles);
+const codeRows=new Map(),bySource=origins.length>0;
 for(const [address,text] of code){
 const [moves,long]=text.replace(/ ;$/,'').split(' ['),block=blockAt(address);
 const cells=moves.split(' , ').map(move=>make('td','',make('span','',move),make('span','word')));
@@ -40,29 +40,27 @@ function middle(element,part){
 const box=element.getBoundingClientRect(),within=part.getBoundingClientRect();
 part.scrollTop+=box.top+box.height/2-within.top-within.height/2;
 }
-//# source : the script that shows the lines of the program once, and then those of the current instruction
-const lineRows=new Map();
-for(const block of joined.blocks)for(const step of block.steps){
-const of=joined.code.find(b=>b.proc==block.proc&&b.kind=='steps'&&b.first<=step.line&&step.line<=b.last);
-lineRows.set(block.proc+':'+step.line,make('tr',of?of.tint:'',make('td','dim',of?of.name:''),make('td','dim',''+step.line),make('td','',step.text),make('td','dim',step.place)));
+//# program : the script that shows the lines of the program once
+const lineRows=new Map(),stepsOf=joined.blocks.flatMap(b=>b.steps.map(step=>({...step,name:b.proc+':'+step.line})));
+const lineSteps=stepsOf.length?stepsOf:origins.flatMap(b=>b.lines.map(name=>({name,line:name.split(':')[1],text:'',place:''})));
+for(const step of lineSteps){
+const of=origins.find(b=>b.lines.includes(step.name));
+lineRows.set(step.name,make('tr',of?of.tint:'',make('td','dim',of?of.name:''),make('td','dim',''+step.line),make('td','',step.text),make('td','dim',step.place)));
 }
 find('program').append(make('table','',...lineRows.values()));
 document.body.classList.toggle('image',!bySource);
+//# source : the script that shows the lines of the current instruction: those of its moves, or all of its block
 function showSource(state){
-const block=blockAt(state.pc),slots=block?block.slots.filter(slot=>slot.address==state.pc&&slot.item):[];
-const now=new Set(slots.map(slot=>slot.item.line)),own=block?block.own.map(step=>block.proc+':'+step.line):[];
+const block=blockAt(state.pc),own=block?block.lines:[],joint=block&&joined.named.get(block.name);
+const slots=joint?joint.slots.filter(slot=>slot.address==state.pc&&slot.item):[];
+const now=new Set(joint?slots.map(slot=>slot.item.line):own);
 for(const [name,row] of lineRows)row.classList.toggle('line',now.has(name));
 const first=lineRows.get([...now][0]||own[0]);
 if(first)middle(first,find('program'));
 }
-//# variables : the script that shows the variables that are live in the current block, with their words
-function livesIn(block){
-const basic=joined.blocks.filter(b=>b.proc==block.proc&&block.kind!='entry'&&b.first<=block.first&&block.last<=b.last);
-return v=>basic.some(b=>b.before.includes(v.name)||b.after.includes(v.name))||block.live.includes(v.home);
-}
+//# variables : the script that shows the variables that are live in the current block, with the words of their homes
 const varWord=(state,v)=>state&&(v.home.startsWith('slot.')?state.kept.get(v.home)||'0':wordOf(state,v.home));
 function showVariables(state,before){
-const block=blockAt(state.pc),lives=block&&livesIn(block);
-const own=block?joined.variables.filter(v=>v.proc==block.proc&&lives(v)):[];
+const block=blockAt(state.pc),own=block?block.lives:[];
 find('variables').replaceChildren(...own.map(v=>cell(v.name+' '+v.home,varWord(state,v),before&&varWord(before,v))),own.length?'':'none is live');
 }

@@ -32,11 +32,12 @@ const word=after.find((word,delay)=>delay&&word!='-'&&(before[delay+1]||'-')=='-
 return make('span','cell','reads '+act.word+(word?': '+shown(word):''));
 });
 }
-//# span : the script that tells which cycles are shown of those that were asked for
+//# span : the script that tells which cycles are shown of those that were asked for, and which part of the code
 function spanText(){
 const first=states[0].cycle,last=states[states.length-1].cycle;
 const rest=+first<asked.first?'; the run is over before':end=='more cycles may follow'?'; more may follow':'; then '+end;
-return 'cycles '+first+' to '+last+' shown, '+asked.bound+(asked.first?' from cycle '+asked.first:'')+' asked for'+rest;
+const part=rows<instructions?'; of the code '+rows+' of '+instructions+' instructions are shown, and those that are reached':'';
+return 'cycles '+first+' to '+last+' shown, '+asked.bound+(asked.first?' from cycle '+asked.first:'')+' asked for'+rest+part;
 }
 //# show : the script that shows a state
 let at=0,timer=0;

@@ -1,19 +1,28 @@
 //# reading : the script that reads the data: what was asked for, names, ports, instructions and states
-const names={bus:[],file:[],imm:[],unit:[]},ports=[],templates={},states=[],code=new Map(),out=[],memory=new Map(),slots=new Map(),asked={};
-let end='more cycles may follow',delay=0,changed=new Set();
+const names={bus:[],file:[],imm:[],unit:[]},ports=[],templates={},states=[],code=new Map(),out=[],memory=new Map(),slots=new Map(),asked={},origins=[];
+let end='more cycles may follow',delay=0,changed=new Set(),instructions=0,rows=0;
 const takes={
 delay:w=>delay=+w[0],
 asked:w=>Object.assign(asked,{first:+w[0],bound:+w[1]}),
 port:w=>ports.push({part:w[0],which:w[1],buses:+w[2]}),
 template:w=>templates[w[0]]=w[1],
-row:w=>code.set(+w[0],w.slice(1).join(' ')),
+instructions:w=>instructions=+w[0],
+row:w=>{code.set(+w[0],w.slice(1).join(' '));rows++;},
 code:(w,state)=>code.has(state.pc)||code.set(state.pc,w.join(' ')),
 state:w=>{
-states.push({cycle:w[0],pc:+w[1],files:[],imms:[],units:[],input:'',out:out.slice(),memory:new Map(memory),changed:states.length?changed:new Set(),
+states.push({cycle:w[0],pc:+w[1],jump:null,files:[],imms:[],units:[],input:'',out:out.slice(),memory:new Map(memory),changed:states.length?changed:new Set(),
 kept:new Map(slots)});
 changed=new Set();
 },
+//# origins : the script that reads which lines a block of code stands for, and which variables are live in it, each with its home
+block:w=>{
+const block=originOf(['block',...w]);
+origins.push({...block,address:+block.rest[1],cycles:+block.rest[3],lines:[],lives:[],tint:'tint'+origins.length%6});
+},
+lines:w=>origins[origins.length-1].lines=w.map(line=>origins[origins.length-1].proc+':'+line),
+live:w=>origins[origins.length-1].lives.push({name:w[0],home:w[1]}),
 //# lines : the script that reads the lines of a state
+pending:(w,state)=>state.jump={kind:w[0],to:w[1],left:+w[2]},
 registers:(w,state)=>state.files.push(w),
 immediates:(w,state)=>w.forEach((word,k)=>state.kept.set(names.imm[state.imms.length]+'.'+k,word))||state.imms.push(w),
 operands:(w,state)=>w.forEach((word,k)=>state.kept.set(names.unit[k]+'.o',word)),
@@ -49,16 +58,7 @@ const [moves,long]=(code.get(state.pc)||'').replace(/ ;$/,'').split(' [');
 state.acts=moves.split(' , ').map(text=>actOf(state,text));
 state.long=long?'['+long:'';
 }
-//# jumps : the script that works out what no state tells: a jump under way
-function after(state,next){
-const jump=state.acts.find(act=>act.look=='active'&&act.target.startsWith('gcu.t.'));
-next.jump=state.jump&&state.jump.left>1?{...state.jump,left:state.jump.left-1}:null;
-if(jump)next.jump=delay?{kind:jump.target.slice(6),to:jump.word,left:delay}:null;
-}
-states.forEach((state,k)=>{actsOf(state);if(states[k+1])after(state,states[k+1]);});
-// One that was under way before the first state is seen where it takes effect.
-const landed=states.findIndex((state,k)=>k>0&&k<=delay&&state.pc!=states[k-1].pc+1&&!states[k-1].jump);
-for(let k=0;k<landed;k++)states[k].jump={kind:'jump',to:''+states[landed].pc,left:landed-k};
+states.forEach(actsOf);
 const reached=new Set(states.map(state=>state.pc));
 //# words : the script that writes words: decimal, signed or hexadecimal
 const forms=['decimal','signed','hexadecimal'];

@@ -1,3 +1,4 @@
+pub mod Room
 pub mod CommonPieces
 pub mod JoinsPieces
 pub mod StagesPieces

@@ -4,9 +4,9 @@ use Rattle.std.specs.Prelude.{ℕ, List, ◌++◌}
 use Rattle.tta_pages.specs.CommonPieces.{style_text, tints_text, fit_text, parts_text, stages_text, code_readers_text, follow_text, passes_text, open_script_text, end_text}
 use Rattle.tta_pages.specs.JoinsPieces.{places_text, joins_text, moves_text, all_joins_text}
 use Rattle.tta_pages.specs.StagesPieces.{stages_head_text, stages_own_style_text, stages_body_text, stages_columns_text, stages_cells_text, stages_bands_text, stages_homes_text, stages_marks_text, stages_mark_text, stages_keys_text}
-use Rattle.tta_pages.specs.RunPieces.{run_head_text, run_style_text, run_looks_text, run_picture_looks_text, run_body_text, run_sections_text, run_middle_text}
-use Rattle.tta_pages.specs.RunStatesPieces.{run_reading_text, run_lines_text, run_moves_text, run_jumps_text, run_words_text}
-use Rattle.tta_pages.specs.RunCodePieces.{run_code_text, run_where_text, run_acts_text, run_source_text, run_variables_text}
+use Rattle.tta_pages.specs.RunPieces.{run_head_text, run_style_text, run_looks_text, run_picture_looks_text, run_body_text, run_sections_text}
+use Rattle.tta_pages.specs.RunStatesPieces.{run_reading_text, run_origins_text, run_lines_text, run_moves_text, run_words_text}
+use Rattle.tta_pages.specs.RunCodePieces.{run_code_text, run_where_text, run_acts_text, run_program_text, run_source_text, run_variables_text}
 use Rattle.tta_pages.specs.RunPicturePieces.{run_picture_places_text, run_picture_parts_text, run_picture_machine_text, run_picture_moves_text, run_picture_acts_text}
 use Rattle.tta_pages.specs.RunShowPieces.{run_state_text, run_cells_text, run_loads_text, run_span_text, run_show_text, run_playing_text, run_buttons_text}
 
@@ -58,11 +58,13 @@ run_head = run_head_text ++ (run_styles ++ (run_body_text ++ run_sections_text))
 
 -- the script that reads the states of a run
 unfoldable pub states_script : List ℕ
-states_script = run_reading_text ++ (run_lines_text ++ (run_moves_text ++ (run_jumps_text ++ run_words_text)))
+states_script =
+    run_reading_text ++ (run_origins_text ++ (run_lines_text ++ (run_moves_text ++ run_words_text)))
 
 -- the script that shows where a state is in the code and in the program
 unfoldable pub code_script : List ℕ
-code_script = run_code_text ++ (run_where_text ++ (run_acts_text ++ (run_source_text ++ run_variables_text)))
+code_script =
+    run_code_text ++ (run_where_text ++ (run_acts_text ++ (run_program_text ++ (run_source_text ++ run_variables_text))))
 
 -- the script that draws the machine, and on it the moves of a state
 unfoldable pub picture_script : List ℕ
@@ -85,7 +87,3 @@ run_script = states_script ++ (code_script ++ (picture_script ++ (words_script +
 -- what stands behind the data of a run
 unfoldable pub run_tail : List ℕ
 run_tail = open_script_text ++ (reading_script ++ (joining_script ++ (run_script ++ end_text)))
-
--- The page that plays a run: with the text of the stages of its program, which is empty where there is no program, and the data of its states.
-unfoldable pub run_page : (told states : List ℕ) → List ℕ
-run_page told states = run_head ++ (told ++ (run_middle_text ++ (states ++ run_tail)))

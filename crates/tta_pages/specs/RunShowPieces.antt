@@ -16,10 +16,10 @@ unfoldable pub run_loads_text : List ℕ
 run_loads_text =
     codes "function loads(state,next){\nreturn state.acts.filter(act=>act.look=='active'&&act.target.endsWith('.t.ldw')).map(act=>{\nconst unit=names.unit.indexOf(act.target.split('.')[0]),before=state.units[unit],after=next?next.units[unit]:[];\nconst word=after.find((word,delay)=>delay&&word!='-'&&(before[delay+1]||'-')=='-')||after[0];\nreturn make('span','cell','reads '+act.word+(word?': '+shown(word):''));\n});\n}\n"
 
--- the script that tells which cycles are shown of those that were asked for
+-- the script that tells which cycles are shown of those that were asked for, and which part of the code
 unfoldable pub run_span_text : List ℕ
 run_span_text =
-    codes "function spanText(){\nconst first=states[0].cycle,last=states[states.length-1].cycle;\nconst rest=+first<asked.first?'; the run is over before':end=='more cycles may follow'?'; more may follow':'; then '+end;\nreturn 'cycles '+first+' to '+last+' shown, '+asked.bound+(asked.first?' from cycle '+asked.first:'')+' asked for'+rest;\n}\n"
+    codes "function spanText(){\nconst first=states[0].cycle,last=states[states.length-1].cycle;\nconst rest=+first<asked.first?'; the run is over before':end=='more cycles may follow'?'; more may follow':'; then '+end;\nconst part=rows<instructions?'; of the code '+rows+' of '+instructions+' instructions are shown, and those that are reached':'';\nreturn 'cycles '+first+' to '+last+' shown, '+asked.bound+(asked.first?' from cycle '+asked.first:'')+' asked for'+rest+part;\n}\n"
 
 -- the script that shows a state
 unfoldable pub run_show_text : List ℕ

@@ -12,7 +12,8 @@ use crate::common_pieces::{
 };
 use crate::joins_pieces::{push_all_joins, push_joins, push_moves, push_places};
 use crate::run_code_pieces::{
-    push_run_acts, push_run_code, push_run_source, push_run_variables, push_run_where,
+    push_run_acts, push_run_code, push_run_program, push_run_source, push_run_variables,
+    push_run_where,
 };
 use crate::run_picture_pieces::{
     push_run_picture_acts, push_run_picture_machine, push_run_picture_moves,
@@ -27,7 +28,7 @@ use crate::run_show_pieces::{
     push_run_span, push_run_state,
 };
 use crate::run_states_pieces::{
-    push_run_jumps, push_run_lines, push_run_moves, push_run_reading, push_run_words,
+    push_run_lines, push_run_moves, push_run_origins, push_run_reading, push_run_words,
 };
 use crate::stages_pieces::{
     push_stages_bands, push_stages_body, push_stages_cells, push_stages_columns,
@@ -142,9 +143,9 @@ fn push_states_script(out: &mut Vec<u8>) -> Result<(), AllocError>
     ensures { OnOk result (out.new.items ≡ out.old.items ++ states_script) }
 {
     push_run_reading(out)?;
+    push_run_origins(out)?;
     push_run_lines(out)?;
     push_run_moves(out)?;
-    push_run_jumps(out)?;
     push_run_words(out)
 }
 
@@ -156,6 +157,7 @@ fn push_code_script(out: &mut Vec<u8>) -> Result<(), AllocError>
     push_run_code(out)?;
     push_run_where(out)?;
     push_run_acts(out)?;
+    push_run_program(out)?;
     push_run_source(out)?;
     push_run_variables(out)
 }

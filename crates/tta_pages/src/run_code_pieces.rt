@@ -1,8 +1,9 @@
 //! The pieces of the fixed text of the script that shows the code and the program of a run.
 
 ghost use Rattle.std.specs.Prelude.{◌≡◌, ◌++◌, OnOk};
-ghost use Rattle.tta_pages.specs.RunCodePieces.{run_acts_text, run_code_text, run_source_text};
-ghost use Rattle.tta_pages.specs.RunCodePieces.{run_variables_text, run_where_text};
+ghost use Rattle.tta_pages.specs.RunCodePieces.{run_acts_text, run_code_text, run_program_text};
+ghost use Rattle.tta_pages.specs.RunCodePieces.{run_source_text, run_variables_text};
+ghost use Rattle.tta_pages.specs.RunCodePieces.{run_where_text};
 
 use std::alloc::AllocError;
 
@@ -12,8 +13,8 @@ pub fn push_run_code(out: &mut Vec<u8>) -> Result<(), AllocError>
     ensures { OnOk result (out.new.items ≡ out.old.items ++ run_code_text) }
 {
     out.extend_from_slice(
-        b"const blockAt=address=>joined.code.find(b=>address>=b.address&&address<b.address+b.cycles);\n\
-        const codeRows=new Map(),bySource=joined.code.length>0;\n\
+        b"const blockAt=address=>origins.find(b=>address>=b.address&&address<b.address+b.cycles);\n\
+        const codeRows=new Map(),bySource=origins.length>0;\n\
         for(const [address,text] of code){\n\
         const [moves,long]=text.replace(/ ;$/,'').split(' ['),block=blockAt(address);\n\
         const cells=moves.split(' , ').map(move=>make('td','',make('span','',move),make('span','word')));\n\
@@ -75,22 +76,34 @@ pub fn push_run_acts(out: &mut Vec<u8>) -> Result<(), AllocError>
     )
 }
 
-/// Puts the script that shows the lines of the program once, and then those of the current instruction.
+/// Puts the script that shows the lines of the program once.
+#[tactic(auto, unfolding(crate::specs::RunCodePieces::run_program_text))]
+pub fn push_run_program(out: &mut Vec<u8>) -> Result<(), AllocError>
+    ensures { OnOk result (out.new.items ≡ out.old.items ++ run_program_text) }
+{
+    out.extend_from_slice(
+        b"const lineRows=new Map(),stepsOf=joined.blocks.flatMap(b=>b.steps.map(step=>({...step,name:b.proc+':'+step.line})));\n\
+        const lineSteps=stepsOf.length?stepsOf:origins.flatMap(b=>b.lines.map(name=>({name,line:name.split(':')[1],text:'',place:''})));\n\
+        for(const step of lineSteps){\n\
+        const of=origins.find(b=>b.lines.includes(step.name));\n\
+        lineRows.set(step.name,make('tr',of?of.tint:'',make('td','dim',of?of.name:''),make('td','dim',''+step.line),make('td','',step.text),make('td','dim',step.place)));\n\
+        }\n\
+        find('program').append(make('table','',...lineRows.values()));\n\
+        document.body.classList.toggle('image',!bySource);\n\
+        ",
+    )
+}
+
+/// Puts the script that shows the lines of the current instruction: those of its moves, or all of its block.
 #[tactic(auto, unfolding(crate::specs::RunCodePieces::run_source_text))]
 pub fn push_run_source(out: &mut Vec<u8>) -> Result<(), AllocError>
     ensures { OnOk result (out.new.items ≡ out.old.items ++ run_source_text) }
 {
     out.extend_from_slice(
-        b"const lineRows=new Map();\n\
-        for(const block of joined.blocks)for(const step of block.steps){\n\
-        const of=joined.code.find(b=>b.proc==block.proc&&b.kind=='steps'&&b.first<=step.line&&step.line<=b.last);\n\
-        lineRows.set(block.proc+':'+step.line,make('tr',of?of.tint:'',make('td','dim',of?of.name:''),make('td','dim',''+step.line),make('td','',step.text),make('td','dim',step.place)));\n\
-        }\n\
-        find('program').append(make('table','',...lineRows.values()));\n\
-        document.body.classList.toggle('image',!bySource);\n\
-        function showSource(state){\n\
-        const block=blockAt(state.pc),slots=block?block.slots.filter(slot=>slot.address==state.pc&&slot.item):[];\n\
-        const now=new Set(slots.map(slot=>slot.item.line)),own=block?block.own.map(step=>block.proc+':'+step.line):[];\n\
+        b"function showSource(state){\n\
+        const block=blockAt(state.pc),own=block?block.lines:[],joint=block&&joined.named.get(block.name);\n\
+        const slots=joint?joint.slots.filter(slot=>slot.address==state.pc&&slot.item):[];\n\
+        const now=new Set(joint?slots.map(slot=>slot.item.line):own);\n\
         for(const [name,row] of lineRows)row.classList.toggle('line',now.has(name));\n\
         const first=lineRows.get([...now][0]||own[0]);\n\
         if(first)middle(first,find('program'));\n\
@@ -99,20 +112,15 @@ pub fn push_run_source(out: &mut Vec<u8>) -> Result<(), AllocError>
     )
 }
 
-/// Puts the script that shows the variables that are live in the current block, with their words.
+/// Puts the script that shows the variables that are live in the current block, with the words of their homes.
 #[tactic(auto, unfolding(crate::specs::RunCodePieces::run_variables_text))]
 pub fn push_run_variables(out: &mut Vec<u8>) -> Result<(), AllocError>
     ensures { OnOk result (out.new.items ≡ out.old.items ++ run_variables_text) }
 {
     out.extend_from_slice(
-        b"function livesIn(block){\n\
-        const basic=joined.blocks.filter(b=>b.proc==block.proc&&block.kind!='entry'&&b.first<=block.first&&block.last<=b.last);\n\
-        return v=>basic.some(b=>b.before.includes(v.name)||b.after.includes(v.name))||block.live.includes(v.home);\n\
-        }\n\
-        const varWord=(state,v)=>state&&(v.home.startsWith('slot.')?state.kept.get(v.home)||'0':wordOf(state,v.home));\n\
+        b"const varWord=(state,v)=>state&&(v.home.startsWith('slot.')?state.kept.get(v.home)||'0':wordOf(state,v.home));\n\
         function showVariables(state,before){\n\
-        const block=blockAt(state.pc),lives=block&&livesIn(block);\n\
-        const own=block?joined.variables.filter(v=>v.proc==block.proc&&lives(v)):[];\n\
+        const block=blockAt(state.pc),own=block?block.lives:[];\n\
         find('variables').replaceChildren(...own.map(v=>cell(v.name+' '+v.home,varWord(state,v),before&&varWord(before,v))),own.length?'':'none is live');\n\
         }\n\
         ",

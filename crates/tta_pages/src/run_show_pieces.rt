@@ -68,7 +68,7 @@ pub fn push_run_loads(out: &mut Vec<u8>) -> Result<(), AllocError>
     )
 }
 
-/// Puts the script that tells which cycles are shown of those that were asked for.
+/// Puts the script that tells which cycles are shown of those that were asked for, and which part of the code.
 #[tactic(auto, unfolding(crate::specs::RunShowPieces::run_span_text))]
 pub fn push_run_span(out: &mut Vec<u8>) -> Result<(), AllocError>
     ensures { OnOk result (out.new.items ≡ out.old.items ++ run_span_text) }
@@ -77,7 +77,8 @@ pub fn push_run_span(out: &mut Vec<u8>) -> Result<(), AllocError>
         b"function spanText(){\n\
         const first=states[0].cycle,last=states[states.length-1].cycle;\n\
         const rest=+first<asked.first?'; the run is over before':end=='more cycles may follow'?'; more may follow':'; then '+end;\n\
-        return 'cycles '+first+' to '+last+' shown, '+asked.bound+(asked.first?' from cycle '+asked.first:'')+' asked for'+rest;\n\
+        const part=rows<instructions?'; of the code '+rows+' of '+instructions+' instructions are shown, and those that are reached':'';\n\
+        return 'cycles '+first+' to '+last+' shown, '+asked.bound+(asked.first?' from cycle '+asked.first:'')+' asked for'+rest+part;\n\
         }\n\
         ",
     )

@@ -1,7 +1,7 @@
 //! The pieces of the fixed text of the script that reads the states of a run.
 
 ghost use Rattle.std.specs.Prelude.{◌≡◌, ◌++◌, OnOk};
-ghost use Rattle.tta_pages.specs.RunStatesPieces.{run_jumps_text, run_lines_text, run_moves_text};
+ghost use Rattle.tta_pages.specs.RunStatesPieces.{run_lines_text, run_moves_text, run_origins_text};
 ghost use Rattle.tta_pages.specs.RunStatesPieces.{run_reading_text, run_words_text};
 
 use std::alloc::AllocError;
@@ -12,20 +12,37 @@ pub fn push_run_reading(out: &mut Vec<u8>) -> Result<(), AllocError>
     ensures { OnOk result (out.new.items ≡ out.old.items ++ run_reading_text) }
 {
     out.extend_from_slice(
-        b"const names={bus:[],file:[],imm:[],unit:[]},ports=[],templates={},states=[],code=new Map(),out=[],memory=new Map(),slots=new Map(),asked={};\n\
-        let end='more cycles may follow',delay=0,changed=new Set();\n\
+        b"const names={bus:[],file:[],imm:[],unit:[]},ports=[],templates={},states=[],code=new Map(),out=[],memory=new Map(),slots=new Map(),asked={},origins=[];\n\
+        let end='more cycles may follow',delay=0,changed=new Set(),instructions=0,rows=0;\n\
         const takes={\n\
         delay:w=>delay=+w[0],\n\
         asked:w=>Object.assign(asked,{first:+w[0],bound:+w[1]}),\n\
         port:w=>ports.push({part:w[0],which:w[1],buses:+w[2]}),\n\
         template:w=>templates[w[0]]=w[1],\n\
-        row:w=>code.set(+w[0],w.slice(1).join(' ')),\n\
+        instructions:w=>instructions=+w[0],\n\
+        row:w=>{code.set(+w[0],w.slice(1).join(' '));rows++;},\n\
         code:(w,state)=>code.has(state.pc)||code.set(state.pc,w.join(' ')),\n\
         state:w=>{\n\
-        states.push({cycle:w[0],pc:+w[1],files:[],imms:[],units:[],input:'',out:out.slice(),memory:new Map(memory),changed:states.length?changed:new Set(),\n\
+        states.push({cycle:w[0],pc:+w[1],jump:null,files:[],imms:[],units:[],input:'',out:out.slice(),memory:new Map(memory),changed:states.length?changed:new Set(),\n\
         kept:new Map(slots)});\n\
         changed=new Set();\n\
         },\n\
+        ",
+    )
+}
+
+/// Puts the script that reads which lines a block of code stands for, and which variables are live in it, each with its home.
+#[tactic(auto, unfolding(crate::specs::RunStatesPieces::run_origins_text))]
+pub fn push_run_origins(out: &mut Vec<u8>) -> Result<(), AllocError>
+    ensures { OnOk result (out.new.items ≡ out.old.items ++ run_origins_text) }
+{
+    out.extend_from_slice(
+        b"block:w=>{\n\
+        const block=originOf(['block',...w]);\n\
+        origins.push({...block,address:+block.rest[1],cycles:+block.rest[3],lines:[],lives:[],tint:'tint'+origins.length%6});\n\
+        },\n\
+        lines:w=>origins[origins.length-1].lines=w.map(line=>origins[origins.length-1].proc+':'+line),\n\
+        live:w=>origins[origins.length-1].lives.push({name:w[0],home:w[1]}),\n\
         ",
     )
 }
@@ -36,7 +53,8 @@ pub fn push_run_lines(out: &mut Vec<u8>) -> Result<(), AllocError>
     ensures { OnOk result (out.new.items ≡ out.old.items ++ run_lines_text) }
 {
     out.extend_from_slice(
-        b"registers:(w,state)=>state.files.push(w),\n\
+        b"pending:(w,state)=>state.jump={kind:w[0],to:w[1],left:+w[2]},\n\
+        registers:(w,state)=>state.files.push(w),\n\
         immediates:(w,state)=>w.forEach((word,k)=>state.kept.set(names.imm[state.imms.length]+'.'+k,word))||state.imms.push(w),\n\
         operands:(w,state)=>w.forEach((word,k)=>state.kept.set(names.unit[k]+'.o',word)),\n\
         return:(w,state)=>state.kept.set('gcu.ra',w[0]),\n\
@@ -80,25 +98,7 @@ pub fn push_run_moves(out: &mut Vec<u8>) -> Result<(), AllocError>
         state.acts=moves.split(' , ').map(text=>actOf(state,text));\n\
         state.long=long?'['+long:'';\n\
         }\n\
-        ",
-    )
-}
-
-/// Puts the script that works out what no state tells: a jump under way.
-#[tactic(auto, unfolding(crate::specs::RunStatesPieces::run_jumps_text))]
-pub fn push_run_jumps(out: &mut Vec<u8>) -> Result<(), AllocError>
-    ensures { OnOk result (out.new.items ≡ out.old.items ++ run_jumps_text) }
-{
-    out.extend_from_slice(
-        b"function after(state,next){\n\
-        const jump=state.acts.find(act=>act.look=='active'&&act.target.startsWith('gcu.t.'));\n\
-        next.jump=state.jump&&state.jump.left>1?{...state.jump,left:state.jump.left-1}:null;\n\
-        if(jump)next.jump=delay?{kind:jump.target.slice(6),to:jump.word,left:delay}:null;\n\
-        }\n\
-        states.forEach((state,k)=>{actsOf(state);if(states[k+1])after(state,states[k+1]);});\n\
-        // One that was under way before the first state is seen where it takes effect.\n\
-        const landed=states.findIndex((state,k)=>k>0&&k<=delay&&state.pc!=states[k-1].pc+1&&!states[k-1].jump);\n\
-        for(let k=0;k<landed;k++)states[k].jump={kind:'jump',to:''+states[landed].pc,left:landed-k};\n\
+        states.forEach(actsOf);\n\
         const reached=new Set(states.map(state=>state.pc));\n\
         ",
     )

@@ -1,5 +1,7 @@
+mod Landing
 mod Rows
 mod Sizes
 mod Skipped
+mod Small
 mod Told
 mod Unmade

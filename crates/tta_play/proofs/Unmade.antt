@@ -62,3 +62,8 @@ unmade u m code s ill = of s s.outcome refl ill where
 pub fault_takes_none : (u : Units) (m : Machine) (code : Code) (s : State) (number at : ℕ) → (next u m code s).outcome ≡ Fault number at
     → (next u m code s).rest ≡ s.rest
 fault_takes_none u m code s number at is = ap (λ (t : State). t.rest) (unmade u m code s (ap went_well is))
+
+-- and the control move under way is the same
+pub fault_keeps_pending : (u : Units) (m : Machine) (code : Code) (s : State) (number at : ℕ) → (next u m code s).outcome ≡ Fault number at
+    → (next u m code s).pending ≡ s.pending
+fault_keeps_pending u m code s number at is = ap (λ (t : State). t.pending) (unmade u m code s (ap went_well is))

@@ -1,4 +1,5 @@
 pub mod Cited
+pub mod Controls
 pub mod Ports
 pub mod States
 pub mod Steps

@@ -1,8 +1,8 @@
 -- What a page tells of each state of a run.
-use Rattle.std.specs.Prelude.{ℕ, zero, suc, ◌+◌, ◌==◌, false, if◌then◌else◌, List, [], ◌++◌, Option, None, Some, option_map, length, take, drop, slice_get, codes, decimal}
+use Rattle.std.specs.Prelude.{ℕ, zero, suc, ◌+◌, ◌-◌, ◌==◌, false, nat_lt, if◌then◌else◌, List, [], ◌++◌, Option, None, Some, option_map, length, take, drop, slice_get, codes, decimal}
 use Rattle.std.specs.Option.{option_map_or}
 use Rattle.std.specs.List.{flat_map, enumerate_from}
-use Rattle.tta_play.specs.Cited.{Units, File, ImmUnit, KeptReg, KeptImm, KeptOperand, KeptRa, kept, Machine, Instruction, State, Outcome, Running, port, instruction_text, due_at, is_made}
+use Rattle.tta_play.specs.Cited.{Units, Kind, Jumps, Calls, Halts, Pending, File, ImmUnit, KeptReg, KeptImm, KeptOperand, KeptRa, kept, Machine, Instruction, State, Outcome, Running, port, instruction_text, due_at, is_made, within}
 use Rattle.tta_arch.specs.declared.parts.Unit.{Unit as OpUnit}
 use Rattle.tta_code.specs.Cycle.{Halted, Waiting, Fault}
 
@@ -80,6 +80,21 @@ units_text s units = flat_map (λ q. results_text s q.0) (enumerate_from 0 units
 unfoldable pub where_text : State → List ℕ
 where_text s = codes "state " ++ (decimal s.cycle ++ (codes " " ++ (decimal s.pc ++ codes "\n")))
 
+-- what a control move under way does
+abbrev pub kind_text : Kind → List ℕ
+kind_text Jumps = codes "jump "
+kind_text Calls = codes "call "
+kind_text Halts = codes "halt "
+
+-- a control move that is under way: what it does, its word, and in how many cycles it takes effect
+unfoldable pub pending_text : (cycle : ℕ) → Pending → List ℕ
+pending_text cycle p =
+    codes "pending " ++ (kind_text p.kind ++ (decimal p.word ++ (codes " " ++ (decimal (p.time - cycle) ++ codes "\n"))))
+
+-- the one that is under way, if any
+abbrev pub control_text : State → List ℕ
+control_text s = option_map_or (pending_text s.cycle) s.pending []
+
 -- the word of the input that comes next, if one is left
 abbrev pub input_text : Option ℕ → List ℕ
 input_text None = []
@@ -93,10 +108,14 @@ code_text u m i = codes "code " ++ instruction_text u m i
 abbrev pub code_at_text : Units → Machine → List Instruction → (address : ℕ) → List ℕ
 code_at_text u m words address = option_map_or (code_text u m) (slice_get words address) []
 
--- a state: where it is, the words that it keeps, its results, the word of the input and the instruction that come next
+-- the words that a state keeps, its results, the word of the input and the instruction that come next
+unfoldable pub held_text : Units → Machine → List Instruction → (input : Option ℕ) → State → List ℕ
+held_text u m words input s =
+    places_text m s ++ (units_text s m.units ++ (input_text input ++ code_at_text u m words s.pc))
+
+-- a state: where it is, the control move that is under way, and what it holds
 unfoldable pub state_text : Units → Machine → List Instruction → (input : Option ℕ) → State → List ℕ
-state_text u m words input s =
-    where_text s ++ (places_text m s ++ (units_text s m.units ++ (input_text input ++ code_at_text u m words s.pc)))
+state_text u m words input s = where_text s ++ (control_text s ++ held_text u m words input s)
 
 -- the same with the next word of the state's own input
 abbrev pub whole_text : Units → Machine → List Instruction → State → List ℕ
@@ -142,12 +161,19 @@ end_text Halted = codes "halted\n"
 end_text Waiting = codes "waiting\n"
 end_text (Fault number cycle) = codes "fault " ++ (decimal number ++ codes "\n")
 
--- A state, and those after each of at most so many cycles, with what each cycle does; and where a cycle is not carried
--- out, why the run is over.
-abbrev pub states_text : (step : State → State) → (told : State → List ℕ) → (left : ℕ) → State → List ℕ
-states_text step told zero s = told s
-states_text step told (suc left) s =
-    told s
-    ++ (if is_made step s
-    then cycle_text s (step s) ++ states_text step told left (step s)
-    else end_text (step s).outcome)
+-- what the cycle after a state does, or why none is made
+abbrev pub after_text : (step : State → State) → State → List ℕ
+after_text step s = if is_made step s then cycle_text s (step s) else end_text (step s).outcome
+
+-- a state, and what the cycle after it does
+abbrev pub state_and_cycle_text : (step : State → State) → (told : State → List ℕ) → State → List ℕ
+state_and_cycle_text step told s = told s ++ after_text step s
+
+-- A state, and those after each of at most so many cycles, with what each cycle does, and where a cycle is not carried out, why the run is
+-- over: as many of them as there is room for.
+abbrev pub states_text : (step : State → State) → (told : State → List ℕ) → (room left : ℕ) → State → List ℕ
+states_text step told room zero s = within room (told s)
+states_text step told room (suc left) s =
+    let piece = state_and_cycle_text step told s in
+    if nat_lt room (length piece) then []
+    else piece ++ (if is_made step s then states_text step told (room - length piece) left (step s) else [])

@@ -2,14 +2,19 @@
 
 ghost use Rattle.std.specs.Prelude.{◌≡◌, ◌==◌, ◌++◌, false, codes, decimal, slice_get, take, OnOk};
 ghost use Rattle.std.specs.Option.{option_map_or};
+ghost use Rattle.tta_pages.specs.Room.{within};
 ghost use Rattle.tta_play.specs.States.{spaces_text, store_text, stores_text};
 
 use crate::words::push_number;
 use std::alloc::AllocError;
+use tta_pages::keep_within;
 use tta_sim::Sim;
 
 /// How many words of each space are told of what changed before a page begins.
 const MOST: usize = 4096;
+
+/// How many bytes that has at most. So many words do not have more.
+const EARLIER: usize = 262_144;
 
 /// The data words and the frame words of a state.
 #[derive(Drop)]
@@ -147,17 +152,21 @@ fn first_of(words: &[u32]) -> &[u32]
     }
 }
 
-/// Puts the first words of the spaces of a run that are others than those that were kept.
+/// Puts the first words of the spaces of a run that are others than those that were kept, if there is room
+/// for them.
 pub fn push_earlier(out: &mut Vec<u8>, spaces: &Spaces, sim: &Sim) -> Result<(), AllocError>
-    ensures { OnOk result (out.new.items ≡ out.old.items ++ spaces_text
+    ensures { OnOk result (out.new.items ≡ out.old.items ++ within 262144 (spaces_text
         (take 4096 spaces.now.memory.items) (take 4096 spaces.now.frame.items)
-        (take 4096 sim.now.memory) (take 4096 sim.now.frame)) }
+        (take 4096 sim.now.memory) (take 4096 sim.now.frame))) }
 {
+    let from = out.len();
     push_spaces(
         out,
         first_of(spaces.memory.as_slice()),
         first_of(spaces.frame.as_slice()),
         first_of(sim.memory()),
         first_of(sim.frame()),
-    )
+    )?;
+    keep_within(out, from, EARLIER);
+    Ok(())
 }

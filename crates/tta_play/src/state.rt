@@ -5,9 +5,12 @@ ghost use Rattle.std.specs.Option.{option_copied};
 ghost use Rattle.tta_ops.specs.Set.{stated};
 ghost use Rattle.tta_code.specs.Cycle.{State};
 ghost use Rattle.tta_sim.specs.Held.{Stands, IsRunOf};
-ghost use Rattle.tta_play.specs.States.{code_at_text, code_text, input_text, results_text};
-ghost use Rattle.tta_play.specs.States.{state_text, units_text, where_text};
+ghost use Rattle.tta_play.specs.Controls.{Follows, kind_of, pending_of};
+ghost use Rattle.tta_play.specs.States.{code_at_text, code_text, control_text, input_text};
+ghost use Rattle.tta_play.specs.States.{held_text, kind_text, pending_text, results_text, state_text};
+ghost use Rattle.tta_play.specs.States.{units_text, where_text};
 
+use crate::control::{ControlKind, UnderWay};
 use crate::places::push_places;
 use crate::words::{push_dues, push_number, push_word};
 use std::alloc::AllocError;
@@ -113,10 +116,45 @@ fn push_code_at(
     }
 }
 
-/// Puts a state: where it is, the words that it keeps, its results, the word of the input and the
-/// instruction that come next.
-#[tactic(auto, unfolding(crate::specs::States::state_text))]
-pub fn push_state(
+/// Puts what a control move under way does.
+fn push_kind(out: &mut Vec<u8>, kind: ControlKind) -> Result<(), AllocError>
+    ensures { OnOk result (out.new.items ≡ out.old.items ++ kind_text (kind_of kind)) }
+{
+    match kind {
+        ControlKind::Jump => out.extend_from_slice(b"jump "),
+        ControlKind::Call => out.extend_from_slice(b"call "),
+        ControlKind::Halt => out.extend_from_slice(b"halt "),
+    }
+}
+
+/// Puts a control move that is under way, where so many cycles are made.
+#[tactic(auto, unfolding(crate::specs::States::pending_text))]
+fn push_pending(out: &mut Vec<u8>, cycle: u64, p: UnderWay) -> Result<(), AllocError>
+    ensures { OnOk result
+        (out.new.items ≡ out.old.items ++ pending_text cycle (pending_of p)) }
+{
+    out.extend_from_slice(b"pending ")?;
+    push_kind(out, p.kind)?;
+    push_number(out, u64::from(p.word))?;
+    out.extend_from_slice(b" ")?;
+    push_number(out, p.time.saturating_sub(cycle))?;
+    out.extend_from_slice(b"\n")
+}
+
+/// Puts the control move that is under way in a run, if there is one.
+fn push_control(out: &mut Vec<u8>, sim: &Sim, under_way: Option<UnderWay>) -> Result<(), AllocError>
+    ensures { (s : State) → Follows sim.now under_way s
+        → OnOk result (out.new.items ≡ out.old.items ++ control_text s) }
+{
+    match under_way {
+        None => Ok(()),
+        Some(p) => push_pending(out, sim.cycles(), p),
+    }
+}
+
+/// Puts the words that a state keeps, its results, the word of the input and the instruction that come next.
+#[tactic(auto, unfolding(crate::specs::States::held_text))]
+fn push_held(
     out: &mut Vec<u8>,
     basis: &Basis<'_>,
     sim: &Sim,
@@ -126,12 +164,31 @@ pub fn push_state(
     requires few { sim.now.cycle < 2 ^ 63 }
     ensures { let U = stated unit_meaning basis.now.units.now in
         (s : State) → Stands sim.now s → OnOk result (out.new.items ≡ out.old.items
-        ++ state_text U basis.now.m.now basis.now.code.now.words next s) }
+        ++ held_text U basis.now.m.now basis.now.code.now.words next s) }
 {
     let m = basis.m;
-    push_where(out, sim)?;
     push_places(out, m, sim)?;
     push_units(out, sim, m.units.as_slice())?;
     push_input(out, next)?;
     push_code_at(out, basis.units, m, basis.code, sim.pc())
+}
+
+/// Puts a state: where it is, the control move that is under way, and what it holds.
+#[tactic(auto, unfolding(crate::specs::States::state_text))]
+pub fn push_state(
+    out: &mut Vec<u8>,
+    basis: &Basis<'_>,
+    sim: &Sim,
+    under_way: Option<UnderWay>,
+    next: Option<u32>,
+) -> Result<(), AllocError>
+    requires loaded { IsRunOf basis.now.m.now basis.now.code.now sim.now }
+    requires few { sim.now.cycle < 2 ^ 63 }
+    ensures { let U = stated unit_meaning basis.now.units.now in
+        (s : State) → Follows sim.now under_way s → OnOk result (out.new.items
+        ≡ out.old.items ++ state_text U basis.now.m.now basis.now.code.now.words next s) }
+{
+    push_where(out, sim)?;
+    push_control(out, sim, under_way)?;
+    push_held(out, basis, sim, next)
 }

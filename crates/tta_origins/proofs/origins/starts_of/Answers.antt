@@ -1,0 +1,12 @@
+use Rattle.std.proofs.Common.{◌<◌, ◌^◌, List, sym, subst}
+use Rattle.tta_link.specs.Blocks.{total_length}
+use Rattle.tta_stages.proofs.FewCycles.{few_cycles}
+use Rattle.tta_origins.specs.Cited.{stated, Placed}
+use Rattle.tta_origins.proofs.origins.starts_of.Goals as goal
+
+pub block_starts-requires : goal.block_starts-requires
+block_starts-requires g c =
+    let on = c.args.on.now in
+    let U = stated (λ v. (goal.OpUnit-dyn g v).unit_meaning v.1) on.units.now in
+    subst (λ (ps : List Placed). total_length ps < 2 ^ 32) (sym c.as_slice.ensures.value)
+    (few_cycles U on.m.now on.p.now on.stages.now c.keep_rules.ensures c.requires)
