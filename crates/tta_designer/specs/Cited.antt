@@ -8,6 +8,7 @@ pub use Rattle.tta_code.specs.Legal.{IsLegalCode, IsLegalWhole}
 pub use Rattle.tta_code.specs.Whole.{Whole, data_in, laid_by}
 pub use Rattle.tta_code.specs.declared.whole.Datum.{Datum}
 pub use Rattle.tta_cores.specs.declared.cores.Core.{Core}
+unfoldable pub use Rattle.tta_cost.specs.CostText.{cost_text}
 pub use Rattle.tta_debug.specs.Debugged.{Debugged}
 pub use Rattle.tta_debug.specs.Sessions.{Session'}
 unfoldable pub use Rattle.tta_draw.specs.CodePicture.{picture_of_code}
@@ -25,6 +26,8 @@ pub use Rattle.tta_given.specs.Runs.{HasGiven, PairRuns, bound_of}
 pub use Rattle.tta_given.specs.declared.machine.MachineFile.{MachineFile}
 pub use Rattle.tta_given.specs.declared.pair.CodePair.{CodePair}
 pub use Rattle.tta_given.specs.declared.status.Status.{Status}
+pub use Rattle.tta_hardware.specs.Hardware.{circuit_of, circuit_with}
+pub use Rattle.tta_header.specs.Header.{TellsImage, headed_file, headed_rtl}
 unfoldable pub use Rattle.tta_image.specs.Bits.{instruction_bits}
 pub use Rattle.tta_image.specs.Image.{Image, data_section}
 unfoldable pub use Rattle.tta_image.specs.Reading.{decoded_image}
@@ -47,6 +50,7 @@ pub use Rattle.tta_network.specs.Request.{is_net}
 pub use Rattle.tta_ops.specs.Set.{stated}
 pub use Rattle.tta_ops.specs.Units.{Units}
 unfoldable pub use Rattle.tta_pages.specs.Pages.{stages_page}
+pub use Rattle.tta_origins.specs.Statement.{origins_text}
 pub use Rattle.tta_play.specs.Statement.{page_of}
 unfoldable pub use Rattle.tta_play.specs.Statement.{page_after}
 pub use Rattle.tta_ports.specs.Output.{IsCut, IsPut, IsQuiet, Output}
@@ -57,7 +61,7 @@ pub use Rattle.tta_program.specs.Program.{data_of, first_outside}
 pub use Rattle.tta_prompt.specs.Endings.{Prompts}
 pub use Rattle.tta_prompt.specs.declared.error.PromptError.{PromptError}
 pub use Rattle.tta_prompt.specs.declared.error.PromptError.TheVariants.{LinesFailed, NoMemory, SinkFailed, TooLong}
-pub use Rattle.tta_rtl.specs.Module.{rtl_of}
+pub use Rattle.tta_rtl.specs.Module.{first_words}
 pub use Rattle.tta_sim.specs.Held.{Stands}
 unfoldable pub use Rattle.tta_stages.specs.RegisterText.{named_text}
 pub use Rattle.tta_stages.specs.Stages.{AreStages}

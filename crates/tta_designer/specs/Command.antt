@@ -5,11 +5,12 @@ use Rattle.tta_given.specs.declared.status.Status.TheVariants as status
 use Rattle.tta_given.specs.Endings as endings
 use Rattle.tta_designer.specs.declared.view.View.{View}
 use Rattle.tta_designer.specs.Views.{machine_view, told_of}
-use Rattle.tta_designer.specs.Request.{Request, OfMachine, OfInfo, OfPicture, OfRun, OfPrompt, OfStages, OfRtl, OfNet}
+use Rattle.tta_designer.specs.Request.{Request, OfMachine, OfInfo, OfPicture, OfRun, OfPrompt, OfStages, OfRtl, OfCost, OfNet}
 use Rattle.tta_designer.specs.Runs.{ShowsRun}
 use Rattle.tta_designer.specs.Prompts.{OpensPrompt}
 use Rattle.tta_designer.specs.Stages.{ShowsStages}
 use Rattle.tta_designer.specs.Circuits.{ShowsCircuit}
+use Rattle.tta_designer.specs.Costs.{ShowsCost}
 use Rattle.tta_designer.specs.Pictures.{ShowsPicture}
 use Rattle.tta_designer.specs.Joining.{ShowsNet}
 
@@ -35,7 +36,8 @@ Ends u (Some (OfPicture M F)) before after old new s = ShowsPicture u M F before
 Ends u (Some (OfRun view M F IN STREAM bound)) before after old new s = ShowsRun u view M F IN STREAM bound before after old new s
 Ends u (Some (OfPrompt M IMG IN STREAM)) before after old new s = ⊥
 Ends u (Some (OfStages view M P)) before after old new s = ShowsStages u view M P before after old new s
-Ends u (Some (OfRtl M F)) before after old new s = ShowsCircuit u M F before after old new s
+Ends u (Some (OfRtl view M F)) before after old new s = ShowsCircuit u view M F before after old new s
+Ends u (Some (OfCost M F)) before after old new s = ShowsCost u M F before after old new s
 Ends u (Some (OfNet depths LINKS names)) before after old new s = ShowsNet u depths LINKS names before after old new s
 
 -- How a request ends. Lines come of a session at a prompt alone.

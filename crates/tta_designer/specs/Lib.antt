@@ -6,6 +6,7 @@ pub mod Stages
 pub mod Subjects
 pub mod Runs
 pub mod Circuits
+pub mod Costs
 pub mod Remarks
 pub mod Pictures
 pub mod Depths

@@ -5,17 +5,19 @@ use Rattle.std.specs.String.{string_bytes}
 use Rattle.tta_designer.specs.Cited.{bound_of, cores_in, is_net}
 use Rattle.tta_designer.specs.Depths.{are_depths}
 use Rattle.tta_designer.specs.declared.view.View.{View}
-use Rattle.tta_designer.specs.declared.view.View.TheVariants.{Picture, Info}
+use Rattle.tta_designer.specs.declared.view.View.TheVariants.{Picture, Info, Cost}
 use Rattle.tta_designer.specs.declared.view.RunView.{RunView}
 use Rattle.tta_designer.specs.declared.view.RunView.TheVariants.{Profile, Play, PlayAfter, Waves}
+use Rattle.tta_designer.specs.declared.view.CircuitView.{CircuitView}
+use Rattle.tta_designer.specs.declared.view.CircuitView.TheVariants.{Module, ModuleOfFile, CodeFile}
 use Rattle.tta_designer.specs.declared.view.StagesView.{StagesView}
 use Rattle.tta_designer.specs.declared.view.StagesView.TheVariants.{Lines, Page}
 use Rattle.tta_designer.specs.declared.request.Request.{Request as Asked}
 use Rattle.tta_designer.specs.declared.request.Request.TheVariants as for
 
 -- what can be asked for: a view of a machine, what is told of an image for a machine, the picture of such code or of that of a program,
--- a view of a run of it, a session at a prompt over a run of code, a view of the stages of a program for a machine, the circuit of a
--- machine with the code of an image or of a program, or the circuits of cores that are joined by queues
+-- a view of a run of it, a session at a prompt over a run of code, a view of the stages of a program for a machine, a text of the circuit of a
+-- machine with the code of an image or of a program, what such a circuit is made of, or the circuits of cores that are joined by queues
 pub data Request : Type 0 where
   OfMachine : (view : View) (machine : List ℕ) → Request
   OfInfo : (machine image : List ℕ) → Request
@@ -23,12 +25,17 @@ pub data Request : Type 0 where
   OfRun : (view : RunView) (machine subject input : List ℕ) (stream : Option (List ℕ)) (bound : ℕ) → Request
   OfPrompt : (machine image input : List ℕ) (stream : Option (List ℕ)) → Request
   OfStages : (view : StagesView) (machine program : List ℕ) → Request
-  OfRtl : (machine subject : List ℕ) → Request
+  OfRtl : (view : CircuitView) (machine subject : List ℕ) → Request
+  OfCost : (machine subject : List ℕ) → Request
   OfNet : (depths links : List ℕ) (names : List (List ℕ)) → Request
 
 -- the view that a word names
 abbrev pub view_of : (word : List ℕ) → Option View
-view_of word = if bytes_eq word (codes "picture") then Some Picture else if bytes_eq word (codes "info") then Some Info else None
+view_of word =
+    if bytes_eq word (codes "picture") then Some Picture
+    else if bytes_eq word (codes "info") then Some Info
+    else if bytes_eq word (codes "cost") then Some Cost
+    else None
 
 -- the view of a run that a word names
 abbrev pub run_view_of : (word : List ℕ) → Option RunView
@@ -76,23 +83,39 @@ is_picture word = bytes_eq word (codes "picture")
 abbrev pub is_info : (word : List ℕ) → Bool
 is_info word = bytes_eq word (codes "info")
 
+-- whether a word is the name of the command that tells what a circuit is made of
+abbrev pub is_cost : (word : List ℕ) → Bool
+is_cost word = bytes_eq word (codes "cost")
+
 -- the request of the name of a command with two files
 abbrev pub pair_request : (word machine second : List ℕ) → Option Request
 pair_request word machine second =
     if is_stages word then Some (OfStages Lines machine second)
-    else if is_rtl word then Some (OfRtl machine second)
+    else if is_rtl word then Some (OfRtl Module machine second)
     else if is_picture word then Some (OfPicture machine second)
     else if is_info word then Some (OfInfo machine second)
+    else if is_cost word then Some (OfCost machine second)
     else None
 
 -- the request of the name of a command that shows stages with a word after its two files, which asks for a page
 abbrev pub page_request : (machine program mark : List ℕ) → Option Request
 page_request machine program mark = if bytes_eq mark (codes "--html") then Some (OfStages Page machine program) else None
 
+-- the text of a circuit that a word behind its two files names
+abbrev pub rom_view_of : (mark : List ℕ) → Option CircuitView
+rom_view_of mark =
+    if bytes_eq mark (codes "rom=file") then Some ModuleOfFile else if bytes_eq mark (codes "rom=words") then Some CodeFile else None
+
+-- the request of the name of the command that shows a circuit with a word after its two files
+abbrev pub rom_request : (machine subject mark : List ℕ) → Option Request
+rom_request machine subject mark = option_map (λ view. OfRtl view machine subject) (rom_view_of mark)
+
 -- the request of the name of a command with three words after it
 abbrev pub three_request : (word machine second input : List ℕ) → Option Request
 three_request word machine second input =
-    if is_stages word then page_request machine second input else prompt_request word machine second input None
+    if is_stages word then page_request machine second input
+    else if is_rtl word then rom_request machine second input
+    else prompt_request word machine second input None
 
 -- whether words ask for the circuits of so many cores: `rtl net`, and how many words the queues have
 abbrev pub asks_for_net : (word kind depths : List ℕ) → (count : ℕ) → Bool
@@ -152,5 +175,6 @@ asked (for.Picture names) = OfPicture names.machine.now names.subject.now
 asked (for.Run run) = OfRun run.view run.machine.now run.subject.now run.input.now (option_map (λ s. s.now) run.stream) run.bound
 asked (for.Prompt names) = OfPrompt names.machine.now names.image.now names.input.now (option_map (λ s. s.now) names.stream)
 asked (for.Stages names) = OfStages names.view names.machine.now names.program.now
-asked (for.Rtl names) = OfRtl names.machine.now names.subject.now
+asked (for.Rtl names) = OfRtl names.view names.machine.now names.subject.now
+asked (for.Cost names) = OfCost names.machine.now names.subject.now
 asked (for.Net net) = OfNet net.depths.now net.links.now (map (λ w. string_bytes w) net.names.now)

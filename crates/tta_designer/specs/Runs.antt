@@ -1,6 +1,6 @@
 -- What `profile`, `play` and `waves` do, and why they do not.
 use Rattle.std.specs.Prelude.{◌≡◌, ◌↔◌, ℕ, List, [], Option, Err}
-use Rattle.tta_designer.specs.Cited.{input_of, stream_of, over, Store, World, IsUntouched, Output, IsQuiet, IsPut, IsCut, Units, Machine, Whole, data_in, State, start, data_of, Stages, AreStages, stages_text, IsProfile, IsBlockProfile, page_after, page_of, waves_of, MachineFile, Status, HasText, ReadFailed, IsTooLong, no_memory, IsBadMachine, TextEnds, PairRuns, OfPair, HasThree, OfNamed, RunFault}
+use Rattle.tta_designer.specs.Cited.{input_of, stream_of, over, Store, World, IsUntouched, Output, IsQuiet, IsPut, IsCut, Units, Machine, Whole, data_in, State, start, data_of, Stages, AreStages, stages_text, origins_text, IsProfile, IsBlockProfile, page_after, page_of, waves_of, MachineFile, Status, HasText, ReadFailed, IsTooLong, no_memory, IsBadMachine, TextEnds, PairRuns, OfPair, HasThree, OfNamed, RunFault}
 use Rattle.tta_code.specs.declared.code.Code.{Code}
 use Rattle.tta_program.specs.Program.{Program}
 use Rattle.tta_given.specs.declared.status.Status.TheVariants as status
@@ -15,8 +15,8 @@ use Rattle.tta_designer.specs.declared.view.RunView.TheVariants.{Profile, Play, 
 -- a text is what is shown of at most so many cycles of code from a state, or of so many after others: a page tells of no program
 abbrev pub IsRunShown : Units → RunView → Machine → Code → State → (bound : ℕ) → (text : List ℕ) → Type 0
 IsRunShown u Profile m code s bound text = IsProfile u m code s bound text
-IsRunShown u Play m code s bound text = text ≡ page_of u m code [] s bound
-IsRunShown u (PlayAfter first) m code s bound text = text ≡ page_after u m code [] s first bound
+IsRunShown u Play m code s bound text = text ≡ page_of u m code [] [] s bound
+IsRunShown u (PlayAfter first) m code s bound text = text ≡ page_after u m code [] [] s first bound
 IsRunShown u Waves m code s bound text = text ≡ waves_of u m code s bound
 
 -- the same from these data words, the code's own data laid over them, with this input
@@ -27,11 +27,12 @@ IsViewOf u view bound file whole memory words text =
 -- ---- a program
 
 -- a text is what is shown of at most so many cycles of the code of a program from a state: a profile tells of its blocks, and a page of its
--- stages
+-- stages, and of the lines and the variables of each block
 abbrev pub IsCompiledShown : Units → RunView → Machine → Program → Stages → State → (bound : ℕ) → (text : List ℕ) → Type 0
 IsCompiledShown u Profile m p stages s bound text = IsBlockProfile u m p stages s bound text
-IsCompiledShown u Play m p stages s bound text = text ≡ page_of u m stages.code (stages_text u m p stages) s bound
-IsCompiledShown u (PlayAfter first) m p stages s bound text = text ≡ page_after u m stages.code (stages_text u m p stages) s first bound
+IsCompiledShown u Play m p stages s bound text = text ≡ page_of u m stages.code (stages_text u m p stages) (origins_text m p stages) s bound
+IsCompiledShown u (PlayAfter first) m p stages s bound text =
+    text ≡ page_after u m stages.code (stages_text u m p stages) (origins_text m p stages) s first bound
 IsCompiledShown u Waves m p stages s bound text = text ≡ waves_of u m stages.code s bound
 
 -- The program has stages on the way to code for the machine, and a text is what is shown of their code from these data words,

@@ -1,6 +1,6 @@
 //! Putting the view that the words ask for.
 
-ghost use Rattle.std.specs.Prelude.{◌≡◌, map, true, Some};
+ghost use Rattle.std.specs.Prelude.{◌≡◌, map, true, Some, IfOk};
 ghost use Rattle.std.specs.String.{string_bytes};
 ghost use Rattle.tta_ops.specs.Set.{stated};
 ghost use Rattle.tta_code.specs.Legal.{IsLegalCode};
@@ -10,6 +10,7 @@ ghost use Rattle.tta_designer.specs.Request.{OfMachine, OfInfo, asked, request_o
 ghost use Rattle.tta_designer.specs.Views.{machine_view, told_of};
 ghost use Rattle.tta_designer.specs.Command.{Ends, Shows};
 
+use crate::costing::{put_cost, tell_cost};
 use crate::drawing::put_picture;
 use crate::joining::put_net;
 use crate::names::{InfoRequest, MachineRequest};
@@ -19,13 +20,30 @@ use crate::running::run_subject;
 use crate::staging::put_stages;
 use crate::view::View;
 use crate::writing::put_circuit;
-use std::alloc::Global;
+use std::alloc::{AllocError, Global};
 use tta_draw::draw_machine;
 use tta_given::{CodePair, MachineFile, Status, image_pair, machine_file, put_made};
 use tta_info::{tell_image, tell_machine};
 use tta_lines::Lines;
 use tta_ops::UnitSet;
 use tta_ports::{Files, Sink};
+
+/// The text of a view of a machine. It fails only where there is no memory.
+fn view_text(
+    alloc: Global,
+    units: &UnitSet,
+    file: &MachineFile,
+    view: View,
+) -> Result<Vec<u8>, AllocError>
+    ensures { let U = stated unit_meaning units.now in
+        IfOk result (λ v. v.items ≡ machine_view U view file.now) }
+{
+    match view {
+        View::Picture => draw_machine(alloc, &file.machine, units),
+        View::Info => tell_machine(alloc, &file.machine),
+        View::Cost => tell_cost(alloc, units, file),
+    }
+}
 
 /// The text of a view of a machine.
 fn text_of_machine(
@@ -37,11 +55,7 @@ fn text_of_machine(
     ensures { let U = stated unit_meaning units.now in
         MadeEnds (λ text. text ≡ machine_view U view file.now) no_memory (λ v. v.items) result }
 {
-    let text = match view {
-        View::Picture => draw_machine(alloc, &file.machine, units),
-        View::Info => tell_machine(alloc, &file.machine),
-    };
-    match text {
+    match view_text(alloc, units, file, view) {
         Ok(text) => Ok(text),
         Err(_) => Err(Status::NoMemory),
     }
@@ -123,6 +137,7 @@ fn carry_out<F: Files, L: Lines, S: Sink>(
         Request::Prompt(names) => prompt_image(alloc, units, files, lines, sink, names),
         Request::Stages(names) => put_stages(alloc, units, files, sink, names),
         Request::Rtl(names) => put_circuit(alloc, units, files, sink, names),
+        Request::Cost(names) => put_cost(alloc, units, files, sink, names),
         Request::Net(request) => put_net(alloc, units, files, sink, request),
     }
 }
@@ -151,9 +166,15 @@ fn carry_out<F: Files, L: Lines, S: Sink>(
 /// machine of the file M: blocks, homes, register code, the lists of each block, and the code.
 ///
 /// `rtl M IMG` outputs the circuit of that machine with the code and data of that image, as a module of
-/// Verilog; and `rtl M P` that with the code that `build` makes of that program, and its data.
+/// Verilog; and `rtl M P` that with the code that `build` makes of that program, and its data. With the word
+/// `rom=file` behind it the module takes the words of the code from the file `code.hex`, which is what is
+/// output with `rom=words`.
 /// `rtl net DEPTHS LINKS M IMG IN ..` outputs the circuits of cores, three files for each, that are joined
 /// by queues as the links of the file LINKS say, with as many words in each queue as DEPTHS says.
+///
+/// `cost M` outputs what the circuit of that machine is made of, part by part: bits of registers, choices
+/// between two bits, and the longest path; and `cost M F` that with the code of the image, or of the
+/// program, of the file F, as `rtl M F` takes it.
 ///
 /// The output takes a text in one piece, and nothing where there is none. No file changes.
 ///

@@ -1,6 +1,6 @@
 //! The view of a run of a program: its code is built as `build` does, and then run.
 
-ghost use Rattle.std.specs.Prelude.{◌≡◌, ◌+◌, ◌<◌, ◌^◌, ℕ, List, [], length, IfOk};
+ghost use Rattle.std.specs.Prelude.{◌≡◌, ◌+◌, ◌<◌, ◌^◌, ℕ, List, [], None, length, IfOk};
 ghost use Rattle.tta_list.specs.Laid.{over};
 ghost use Rattle.tta_ops.specs.Set.{stated};
 ghost use Rattle.tta_arch.specs.Over as machines;
@@ -10,6 +10,7 @@ ghost use Rattle.tta_code.specs.Cycle.{State, start};
 ghost use Rattle.tta_sim.specs.Held.{Stands, IsRunOf};
 ghost use Rattle.tta_stages.specs.Stages.{AreStages};
 ghost use Rattle.tta_stages.specs.Text.{stages_text};
+ghost use Rattle.tta_origins.specs.Statement.{origins_text};
 ghost use Rattle.tta_play.specs.Statement.{page_after};
 ghost use Rattle.tta_given.specs.Held.{MadeEnds, no_memory};
 ghost use Rattle.tta_designer.specs.Spans.{first_of};
@@ -23,7 +24,8 @@ use std::alloc::{AllocError, Global};
 use tta_blocks::{Compiled, profile_blocks};
 use tta_given::{Given, MachineFile, Status};
 use tta_ops::UnitSet;
-use tta_play::{Span, play_after};
+use tta_origins::tell_origins;
+use tta_play::{ProgramTexts, Span, play_after};
 use tta_profile::Basis;
 use tta_program::{Program, lay_lines};
 use tta_sim::Sim;
@@ -44,7 +46,8 @@ fn load_compiled(alloc: Global, on: &Compiled<'_>, memory: Vec<u32>) -> Result<S
     Sim::load(alloc, on.m, &on.stages.code, laid)
 }
 
-/// The page that plays a run of the code of a program, with what is told of its stages.
+/// The page that plays a run of the code of a program, with what is told of its stages, and of the lines and
+/// variables of each block of the code.
 fn play_program(
     alloc: Global,
     on: &Compiled<'_>,
@@ -59,16 +62,23 @@ fn play_program(
     requires program { programs.StandsOver (stated unit_meaning on.now.units.now) on.now.p.now }
     ensures { let U = stated unit_meaning on.now.units.now in
         let told = stages_text U on.now.m.now on.now.p.now on.now.stages.now in
-        (s : State) → Stands sim.old s → s.rest ≡ words.now → IfOk result
-        (λ v. v.items ≡ page_after U on.now.m.now on.now.stages.now.code told s span.first span.bound) }
+        let origins = origins_text on.now.m.now on.now.p.now on.now.stages.now in
+        (s : State) → Stands sim.old s → s.pending ≡ None → s.rest ≡ words.now
+        → IfOk result (λ v. v.items ≡ page_after U on.now.m.now on.now.stages.now.code told
+        origins s span.first span.bound) }
 {
     let basis = Basis {
         m: on.m,
         code: &on.stages.code,
         units: on.units,
     };
-    let told = tell_stages(alloc, on.m, on.p, on.units, on.stages)?;
-    play_after(alloc, &basis, told.as_slice(), sim, words, span)
+    let stages = tell_stages(alloc, on.m, on.p, on.units, on.stages)?;
+    let origins = tell_origins(alloc, on)?;
+    let told = ProgramTexts {
+        stages: stages.as_slice(),
+        origins: origins.as_slice(),
+    };
+    play_after(alloc, &basis, &told, sim, words, span)
 }
 
 /// The view of a run of the code of a program.
@@ -86,7 +96,7 @@ fn text_of_blocks(
         on.now.stages.now }
     requires program { programs.StandsOver (stated unit_meaning on.now.units.now) on.now.p.now }
     ensures { let U = stated unit_meaning on.now.units.now in
-        (s : State) → Stands sim.old s → s.written ≡ [] → s.rest ≡ words.now
+        (s : State) → Stands sim.old s → s.written ≡ [] → s.pending ≡ None → s.rest ≡ words.now
         → MadeEnds (IsCompiledShown U view on.now.m.now on.now.p.now on.now.stages.now s bound)
         no_memory (λ v. v.items) result }
 {

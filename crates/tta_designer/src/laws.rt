@@ -5,6 +5,7 @@ ghost use Rattle.tta_designer.specs.Prompts.{PromptByStatus};
 ghost use Rattle.tta_designer.specs.Runs.{RunByStatus};
 ghost use Rattle.tta_designer.specs.Stages.{StagesByStatus};
 ghost use Rattle.tta_designer.specs.Circuits.{CircuitByStatus};
+ghost use Rattle.tta_designer.specs.Costs.{CostByStatus};
 ghost use Rattle.tta_designer.specs.Pictures.{PictureByStatus};
 ghost use Rattle.tta_designer.specs.Command.{MachineByStatus, InfoByStatus};
 
@@ -46,4 +47,9 @@ pub fn stages_by_status()
 /// What holds where `rtl` ends with a status, for each status.
 pub fn circuit_by_status()
     ensures { CircuitByStatus }
+{}
+
+/// What holds where `cost` of a machine with code ends with a status, for each status.
+pub fn cost_by_status()
+    ensures { CostByStatus }
 {}

@@ -4,6 +4,7 @@
 
 mod command;
 mod compiled;
+mod costing;
 mod depths;
 mod drawing;
 mod joining;
@@ -21,8 +22,8 @@ mod writing;
 
 pub use command::show;
 pub use laws::{
-    circuit_by_status, image_size, info_by_status, machine_by_status, picture_by_status,
-    prompt_by_status, run_by_status, stages_by_status,
+    circuit_by_status, cost_by_status, image_size, info_by_status, machine_by_status,
+    picture_by_status, prompt_by_status, run_by_status, stages_by_status,
 };
 pub use request::is_named;
-pub use view::{RunView, StagesView, View};
+pub use view::{CircuitView, RunView, StagesView, View};

@@ -4,7 +4,7 @@ ghost use Rattle.std.specs.Prelude.{◌<◌, ◌^◌, length, IsTrue};
 ghost use Rattle.tta_network.specs.Request.{is_net};
 ghost use Rattle.tta_designer.specs.Spans.{first_of};
 
-use crate::view::{RunView, StagesView, View};
+use crate::view::{CircuitView, RunView, StagesView, View};
 
 /// A view of a machine that is asked for, and the name of the machine's file.
 #[derive(Clone, Copy)]
@@ -38,10 +38,19 @@ pub struct StagesRequest<'w> {
     pub program: &'w str,
 }
 
-/// The circuit of a machine with code that is asked for: the names of the machine's file and of that of
-/// the image or the program.
+/// The circuit of a machine with code that is asked for, and the names of the machine's file and of that
+/// of the image or the program.
 #[derive(Clone, Copy)]
 pub struct RtlRequest<'w> {
+    pub view: CircuitView,
+    pub machine: &'w str,
+    pub subject: &'w str,
+}
+
+/// What the circuit of a machine with code is made of is asked for: the names of the machine's file and of
+/// that of the image or the program.
+#[derive(Clone, Copy)]
+pub struct CostRequest<'w> {
     pub machine: &'w str,
     pub subject: &'w str,
 }

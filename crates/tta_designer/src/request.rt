@@ -2,23 +2,24 @@
 
 ghost use Rattle.std.specs.Prelude.{◌≡◌, ◌∷◌, [], map, option_map};
 ghost use Rattle.std.specs.String.{string_bytes};
-ghost use Rattle.tta_designer.specs.Request.{asked, is_info, is_named, is_picture, is_prompt, is_rtl};
+ghost use Rattle.tta_designer.specs.Request.{asked, is_cost, is_info, is_named, is_picture, is_prompt, is_rtl};
 ghost use Rattle.tta_designer.specs.Request.{is_stages, is_view, page_request, pair_request};
-ghost use Rattle.tta_designer.specs.Request.{prompt_request, request_of, run_request, run_view_of};
+ghost use Rattle.tta_designer.specs.Request.{prompt_request, request_of, rom_request, rom_view_of};
+ghost use Rattle.tta_designer.specs.Request.{run_request, run_view_of};
 ghost use Rattle.tta_designer.specs.Request.{three_request, view_of};
 
 use crate::more::of_more;
 use crate::names::{
-    InfoRequest, MachineRequest, NetRequest, PictureRequest, PromptRequest, RtlRequest, RunRequest,
-    StagesRequest,
+    CostRequest, InfoRequest, MachineRequest, NetRequest, PictureRequest, PromptRequest,
+    RtlRequest, RunRequest, StagesRequest,
 };
-use crate::view::{RunView, StagesView, View};
+use crate::view::{CircuitView, RunView, StagesView, View};
 use tta_given::bound_of;
 
 /// What is asked for: a view of a machine, what is told of an image for a machine, the picture of such
 /// code or of that of a program, a view of a run of it, a session at a prompt over a run of code, a view
 /// of the stages of a program for a machine, the circuit of a machine with the code of an image or of a
-/// program, or the circuits of cores that are joined by queues.
+/// program, what such a circuit is made of, or the circuits of cores that are joined by queues.
 #[derive(Clone, Copy)]
 pub enum Request<'w> {
     Machine(MachineRequest<'w>),
@@ -28,6 +29,7 @@ pub enum Request<'w> {
     Prompt(PromptRequest<'w>),
     Stages(StagesRequest<'w>),
     Rtl(RtlRequest<'w>),
+    Cost(CostRequest<'w>),
     Net(NetRequest<'w>),
 }
 
@@ -40,6 +42,9 @@ fn view_of(word: &str) -> Option<View>
     }
     if word == "info" {
         return Some(View::Info);
+    }
+    if word == "cost" {
+        return Some(View::Cost);
     }
     None
 }
@@ -93,6 +98,13 @@ fn is_info(word: &str) -> bool
     ensures { result ≡ is_info word.now }
 {
     word == "info"
+}
+
+/// Whether a word is the name of the command that tells what a circuit is made of.
+fn is_cost(word: &str) -> bool
+    ensures { result ≡ is_cost word.now }
+{
+    word == "cost"
 }
 
 /// Whether a word is the name of the command that is a session at a prompt.
@@ -177,13 +189,42 @@ fn of_page<'w>(machine: &'w str, program: &'w str, mark: &str) -> Option<Request
     }))
 }
 
-/// The request of four words: a page of stages, or a session at a prompt.
+/// The text of a circuit that a word behind its two files names.
+fn rom_view_of(mark: &str) -> Option<CircuitView>
+    ensures { result ≡ rom_view_of mark.now }
+{
+    if mark == "rom=file" {
+        return Some(CircuitView::ModuleOfFile);
+    }
+    if mark == "rom=words" {
+        return Some(CircuitView::CodeFile);
+    }
+    None
+}
+
+/// The request of the name of the command that shows a circuit, with a word after its two files.
+fn of_rom<'w>(machine: &'w str, subject: &'w str, mark: &str) -> Option<Request<'w>>
+    ensures { option_map asked result ≡ rom_request machine.now subject.now mark.now }
+{
+    let view = rom_view_of(mark)?;
+    Some(Request::Rtl(RtlRequest {
+        view,
+        machine,
+        subject,
+    }))
+}
+
+/// The request of four words: a page of stages, a circuit whose code stands in a file, or a session at a
+/// prompt.
 fn of_four<'w>(word: &str, machine: &'w str, second: &'w str, input: &'w str) -> Option<Request<'w>>
     ensures { option_map asked result
         ≡ three_request word.now machine.now second.now input.now }
 {
     if is_stages(word) {
         return of_page(machine, second, input);
+    }
+    if is_rtl(word) {
+        return of_rom(machine, second, input);
     }
     of_prompt(word, machine, second, input, None)
 }
@@ -218,6 +259,7 @@ fn of_pair<'w>(word: &str, machine: &'w str, second: &'w str) -> Option<Request<
     }
     if is_rtl(word) {
         return Some(Request::Rtl(RtlRequest {
+            view: CircuitView::Module,
             machine,
             subject: second,
         }));
@@ -232,6 +274,12 @@ fn of_pair<'w>(word: &str, machine: &'w str, second: &'w str) -> Option<Request<
         return Some(Request::Info(InfoRequest {
             machine,
             image: second,
+        }));
+    }
+    if is_cost(word) {
+        return Some(Request::Cost(CostRequest {
+            machine,
+            subject: second,
         }));
     }
     None

@@ -1,7 +1,7 @@
 //! The commands `profile`, `play` and `waves`: the code of an image, or of a program, is run cycle by cycle,
 //! and it is told where the cycles go, or a page is made that plays them, or a dump of their signals.
 
-ghost use Rattle.std.specs.Prelude.{◌≡◌, ◌+◌, ◌<◌, ◌^◌, ℕ, List, [], length, option_map, IfOk};
+ghost use Rattle.std.specs.Prelude.{◌≡◌, ◌+◌, ◌<◌, ◌^◌, ℕ, List, [], None, length, option_map, IfOk};
 ghost use Rattle.tta_list.specs.Laid.{over};
 ghost use Rattle.tta_ops.specs.Set.{stated};
 ghost use Rattle.tta_arch.specs.Over as machines;
@@ -24,7 +24,7 @@ use tta_arch::Machine;
 use tta_code::{Whole, lay};
 use tta_given::{Given, MachineFile, Status, data_words, given_files, put_made};
 use tta_ops::UnitSet;
-use tta_play::{Span, play, play_after};
+use tta_play::{ProgramTexts, Span, play, play_after};
 use tta_ports::{Files, Sink};
 use tta_profile::{Basis, profile};
 use tta_sim::Sim;
@@ -60,17 +60,21 @@ fn text_of_basis(
     requires loaded { IsRunOf basis.now.m.now basis.now.code.now sim.old }
     requires few { sim.old.cycle + first_of view + bound < 2 ^ 62 }
     ensures { let on = basis.now in let U = stated unit_meaning on.units.now in
-        (s : State) → Stands sim.old s → s.written ≡ [] → s.rest ≡ words.now
+        (s : State) → Stands sim.old s → s.written ≡ [] → s.pending ≡ None → s.rest ≡ words.now
         → MadeEnds (IsRunShown U view on.m.now on.code.now s bound) no_memory
         (λ v. v.items) result }
 {
+    let untold = ProgramTexts {
+        stages: &[],
+        origins: &[],
+    };
     let text = match view {
         RunView::Profile => profile(alloc, basis, sim, words, bound),
-        RunView::Play => play(alloc, basis, &[], sim, words, bound),
+        RunView::Play => play(alloc, basis, &untold, sim, words, bound),
         RunView::PlayAfter(first) => play_after(
             alloc,
             basis,
-            &[],
+            &untold,
             sim,
             words,
             Span { first, bound },
@@ -102,7 +106,7 @@ fn text_of_sim<'x>(
     requires loaded { IsRunOf on.now.file.now.machine on.now.whole.now.code sim.old }
     requires few { sim.old.cycle + first_of request.now.view + request.now.bound < 2 ^ 62 }
     ensures { let U = stated unit_meaning units.now in
-        (s : State) → Stands sim.old s → s.written ≡ [] → s.rest ≡ words.now
+        (s : State) → Stands sim.old s → s.written ≡ [] → s.pending ≡ None → s.rest ≡ words.now
         → MadeEnds (IsRunShown U request.now.view on.now.file.now.machine on.now.whole.now.code s
         request.now.bound) no_memory (λ v. v.items) result }
 {

@@ -7,6 +7,8 @@ pub enum View {
     Picture,
     /// What is told of it, a line each.
     Info,
+    /// What its circuit is made of, a line each.
+    Cost,
 }
 
 /// A kind of text of the stages of a program.
@@ -16,6 +18,17 @@ pub enum StagesView {
     Lines,
     /// A page that shows them side by side, as HTML.
     Page,
+}
+
+/// A kind of text of the circuit of a machine with code.
+#[derive(Clone, Copy, Debug, PartialEq, Eq)]
+pub enum CircuitView {
+    /// A module with the words of the code in it.
+    Module,
+    /// A module whose memory of code is filled from a file.
+    ModuleOfFile,
+    /// That file.
+    CodeFile,
 }
 
 /// A kind of text of a run.

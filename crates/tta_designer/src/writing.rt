@@ -1,7 +1,7 @@
 //! The command `rtl`: the circuit of a machine with the code of an image, or with the code that is built
 //! of a program.
 
-ghost use Rattle.std.specs.Prelude.{◌≡◌, None, true};
+ghost use Rattle.std.specs.Prelude.{◌≡◌, None, true, IfOk};
 ghost use Rattle.tta_ops.specs.Set.{stated};
 ghost use Rattle.tta_arch.specs.Over as machines;
 ghost use Rattle.tta_program.specs.Over as programs;
@@ -16,36 +16,64 @@ ghost use Rattle.tta_designer.specs.Stages.{IsCauseOf};
 use crate::names::RtlRequest;
 use crate::staging::ending_of;
 use crate::subject::{Subject, SubjectPair, subject_pair};
-use std::alloc::Global;
+use crate::view::CircuitView;
+use std::alloc::{AllocError, Global};
 use tta_build::build;
 use tta_code::Whole;
 use tta_given::{MachineFile, Status, put_made};
+use tta_header::{Source, write_headed_file, write_headed_rtl};
 use tta_ops::UnitSet;
 use tta_ports::{Files, Sink};
 use tta_program::Program;
-use tta_rtl::write_rtl;
+use tta_rtl::Rom;
 
-/// The text of the circuit of a machine with code and data.
+/// A text of the circuit of a machine with code and data.
+fn write_view(
+    alloc: Global,
+    units: &UnitSet,
+    view: CircuitView,
+    file: &MachineFile,
+    whole: &Whole,
+) -> Result<Vec<u8>, AllocError>
+    requires { IsLegalWhole file.now.machine whole.now }
+    ensures { let U = stated unit_meaning units.now in
+        IfOk result (λ v. IsWholeCircuit U view file.now whole.now v.items) }
+{
+    let of = Source {
+        m: &file.machine,
+        digest: &file.digest,
+        whole,
+    };
+    match view {
+        CircuitView::Module => write_headed_rtl(alloc, units, Rom::Text, &of),
+        CircuitView::ModuleOfFile => write_headed_rtl(alloc, units, Rom::File, &of),
+        CircuitView::CodeFile => write_headed_file(alloc, &of),
+    }
+}
+
+/// A text of the circuit of a machine with code and data.
 fn text_of_whole(
     alloc: Global,
     units: &UnitSet,
+    view: CircuitView,
     file: &MachineFile,
     whole: &Whole,
 ) -> Result<Vec<u8>, Status>
     requires { IsLegalWhole file.now.machine whole.now }
     ensures { let U = stated unit_meaning units.now in
-        MadeEnds (IsWholeCircuit U file.now whole.now) no_memory (λ v. v.items) result }
+        MadeEnds (IsWholeCircuit U view file.now whole.now) no_memory (λ v. v.items) result }
 {
-    match write_rtl(alloc, &file.machine, units, &file.digest, whole) {
+    match write_view(alloc, units, view, file, whole) {
         Ok(text) => Ok(text),
         Err(_) => Err(Status::NoMemory),
     }
 }
 
-/// The text of the circuit of a machine with the code that is built of a program, and its data.
+/// A text of the circuit of a machine with the code that is built of a program, and its data.
 fn text_of_built(
     alloc: Global,
     units: &UnitSet,
+    view: CircuitView,
     file: &MachineFile,
     program: &Program,
 ) -> Result<Vec<u8>, Status>
@@ -53,31 +81,36 @@ fn text_of_built(
     requires program { programs.StandsOver (stated unit_meaning units.now) program.now }
     requires inside { first_outside file.now.machine.data_words program.now.init ≡ None }
     ensures { let U = stated unit_meaning units.now in
-        MadeEnds (IsBuiltCircuit U file.now program.now) (IsCauseOf U file.now.machine program.now)
+        MadeEnds (IsBuiltCircuit U view file.now program.now) (IsCauseOf U file.now.machine program.now)
         (λ v. v.items) result }
 {
     match build(alloc, &file.machine, program, units) {
-        Ok(built) => text_of_whole(alloc, units, file, &built.whole),
+        Ok(built) => text_of_whole(alloc, units, view, file, &built.whole),
         Err(error) => Err(ending_of(error, units, &file.machine, program)),
     }
 }
 
-/// The text of the circuit of a machine with what was read for it.
-fn text_of_circuit(alloc: Global, units: &UnitSet, pair: &SubjectPair) -> Result<Vec<u8>, Status>
+/// A text of the circuit of a machine with what was read for it.
+fn text_of_circuit(
+    alloc: Global,
+    units: &UnitSet,
+    view: CircuitView,
+    pair: &SubjectPair,
+) -> Result<Vec<u8>, Status>
     requires machine { machines.StandsOver (stated unit_meaning units.now) pair.now.file.machine }
     requires suits { Suits (stated unit_meaning units.now) pair.now.file.machine pair.now.subject }
     ensures { let U = stated unit_meaning units.now in
-        MadeEnds (IsCircuitText U pair.now.file pair.now.subject)
+        MadeEnds (IsCircuitText U view pair.now.file pair.now.subject)
         (Lacks U pair.now.file pair.now.subject) (λ v. v.items) result }
 {
     let file = &pair.file;
     match &pair.subject {
-        Subject::Code(whole) => text_of_whole(alloc, units, file, whole),
-        Subject::Program(program) => text_of_built(alloc, units, file, program),
+        Subject::Code(whole) => text_of_whole(alloc, units, view, file, whole),
+        Subject::Program(program) => text_of_built(alloc, units, view, file, program),
     }
 }
 
-/// Puts the circuit of the machine of the file that word 1 names with the code of the image, or of the
+/// Puts a text of the circuit of the machine of the file that word 1 names with the code of the image, or of the
 /// program, of the file that word 2 names.
 pub fn put_circuit<F: Files, S: Sink>(
     alloc: Global,
@@ -86,12 +119,13 @@ pub fn put_circuit<F: Files, S: Sink>(
     sink: &mut S,
     names: &RtlRequest<'_>,
 ) -> Status
-    ensures { ShowsCircuit (stated unit_meaning units.now) names.now.machine.now names.now.subject.now
+    ensures { ShowsCircuit (stated unit_meaning units.now) names.now.view names.now.machine.now
+        names.now.subject.now
         (F.world files.old) (F.world files.new) (S.output sink.old) (S.output sink.new) result }
 {
     match subject_pair(alloc, units, files, names.machine, names.subject) {
         Ok(pair) => {
-            let made = text_of_circuit(alloc, units, &pair);
+            let made = text_of_circuit(alloc, units, names.view, &pair);
             put_made(sink, made)
         }
         Err(status) => status,

@@ -8,12 +8,12 @@ use Rattle.tta_endings.proofs.TextsPut.{text_only, puts_only}
 use Rattle.tta_endings.proofs.ViewsTaken.{subject_only, one_subject, lacks_only}
 
 pub circuit_completes_holds : CircuitCompletes
-circuit_completes_holds u store faults latest M F after old new s has calm ends =
+circuit_completes_holds u store faults latest view M F after old new s has calm ends =
     let pair = has.pair in
     let held = pair.machine.held in
     let file = pair.machine.value in
     let subject = pair.second.value in
-    elim (puts_only u store faults latest after old new calm (IsSubject u) (RefusesSubject u) (IsCircuitText u) (Lacks u) M F s pair
+    elim (puts_only u store faults latest after old new calm (IsSubject u) (RefusesSubject u) (IsCircuitText u view) (Lacks u) M F s pair
     (λ bytes is. subject_only u held.bytes file bytes subject s held.says is)
     (λ bytes v. one_subject u held.bytes file bytes v subject held.says) ends) [
       | inl done ↦ inl done

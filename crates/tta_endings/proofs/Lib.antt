@@ -10,3 +10,4 @@ pub mod TextsPut
 pub mod ViewsTaken
 pub mod SamplesTaken
 pub mod CircuitsTaken
+pub mod CostsTaken

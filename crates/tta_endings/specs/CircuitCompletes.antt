@@ -2,6 +2,7 @@
 use Rattle.std.specs.Prelude.{◌≡◌, ◌⊎◌, ℕ, List, length, Option, Some}
 use Rattle.tta_ports.specs.declared.fault.Fault.{Fault}
 use Rattle.tta_endings.specs.Cited.{Store, World, Output, Units, Status, Held, HasPair, AreLinks, cores_in, HasCores, IsSubject, ShowsCircuit, ShowsNet}
+use Rattle.tta_designer.specs.declared.view.CircuitView.{CircuitView}
 use Rattle.tta_given.specs.declared.status.Status.TheVariants as status
 use Rattle.tta_endings.specs.Completes.{showing}
 use Rattle.tta_endings.specs.PutCompletes.{IsUndisturbed}
@@ -16,9 +17,9 @@ pub record HasCircuitFiles (u : Units) (store : Store) (M F : List ℕ) : Type 0
 -- other way
 abbrev pub CircuitCompletes : Type 0
 CircuitCompletes =
-    (u : Units) (store : Store) (faults : ℕ) (latest : Option Fault) (M F : List ℕ) (after : World) (old new : Output) (s : Status)
+    (u : Units) (store : Store) (faults : ℕ) (latest : Option Fault) (view : CircuitView) (M F : List ℕ) (after : World) (old new : Output) (s : Status)
     (has : HasCircuitFiles u store M F) → IsUndisturbed (showing store faults latest) after old new
-    → ShowsCircuit u M F (showing store faults latest) after old new s
+    → ShowsCircuit u view M F (showing store faults latest) after old new s
     → (s ≡ status.Ok) ⊎ (s ≡ status.NoMemory) ⊎ IsTooLong u has.pair.machine.value.machine has.pair.second.value s
 
 -- files hold links and the cores that they join

@@ -13,6 +13,7 @@ pub use Rattle.tta_cores.specs.declared.cores.Core.{Core}
 pub use Rattle.tta_debug.specs.Debugged.{Debugged}
 pub use Rattle.tta_designer.specs.Circuits.{IsCircuitText, ShowsCircuit}
 pub use Rattle.tta_designer.specs.Command.{Ends, IsTold}
+pub use Rattle.tta_designer.specs.Costs.{IsCostText, ShowsCost}
 pub use Rattle.tta_designer.specs.Depths.{depths_in}
 pub use Rattle.tta_designer.specs.Joining.{IsNetText, ShowsNet}
 pub use Rattle.tta_designer.specs.Pictures.{IsPictureText, ShowsPicture}

@@ -18,3 +18,4 @@ pub mod SampleHalts
 pub mod NetCompletes
 pub mod ViewCompletes
 pub mod CircuitCompletes
+pub mod CostCompletes

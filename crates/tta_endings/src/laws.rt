@@ -24,6 +24,7 @@ ghost use Rattle.tta_endings.specs.ViewCompletes.{MachineViewCompletes, InfoComp
 ghost use Rattle.tta_endings.specs.ViewCompletes.{RunViewCompletes, PromptCompletes};
 ghost use Rattle.tta_endings.specs.ViewCompletes.{StagesCompletes, StagesCompletesWithoutRoom};
 ghost use Rattle.tta_endings.specs.CircuitCompletes.{CircuitCompletes, NetTextCompletes};
+ghost use Rattle.tta_endings.specs.CostCompletes.{CostCompletes};
 ghost use Rattle.tta_endings.specs.SampleHalts.{SampleHalts};
 
 /// `build` takes every machine and program that are accepted and have room: where no call on the
@@ -152,6 +153,12 @@ pub fn stages_completes_without_room()
 /// fails, it puts its text, is out of memory, or finds the program's code too long.
 pub fn circuit_completes()
     ensures { CircuitCompletes }
+{}
+
+/// `cost` takes what `rtl` takes: where no call fails, it puts its text, is out of memory, or finds the
+/// program's code too long.
+pub fn cost_completes()
+    ensures { CostCompletes }
 {}
 
 /// `rtl net` takes all links and the cores that they join: where no call fails, it puts its text or

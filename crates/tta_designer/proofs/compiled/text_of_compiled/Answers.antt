@@ -17,4 +17,4 @@ returns-in-Ok g c =
     let words = c.as_slice-words.result.now in
     let memory = over (data_of on.p.now) c.args.given.memory.items in
     subst (λ (given : List ℕ). MadeEnds (IsCompiledShown U c.args.request.now.view on.m.now on.p.now on.stages.now (start on.m.now memory given) c.args.request.now.bound) no_memory (λ v. v.items) c.text_of_blocks.result)
-    c.as_slice-words.ensures.value (c.text_of_blocks.ensures (start on.m.now memory words) (c.in-Ok.ensures.start words) refl refl)
+    c.as_slice-words.ensures.value (c.text_of_blocks.ensures (start on.m.now memory words) (c.in-Ok.ensures.start words) refl refl refl)

@@ -2,17 +2,18 @@ use Rattle.std.proofs.Common.{◌↔◌, ℕ, List, inl, inr}
 use Rattle.tta_designer.specs.Cited.{World, Output, Units, Status, ReadFailed, IsTooLong}
 use Rattle.tta_given.specs.declared.status.Status.TheVariants as status
 use Rattle.tta_given.proofs.Stages.{none, pair_at, PutStages, put_stages}
+use Rattle.tta_designer.specs.declared.view.CircuitView.{CircuitView}
 use Rattle.tta_designer.specs.Subjects.{IsSubject, RefusesSubject}
 use Rattle.tta_designer.specs.Runs.{Lacks}
 use Rattle.tta_designer.specs.Circuits.{IsCircuitText, ShowsCircuit, CircuitEndings}
 use Rattle.tta_designer.proofs.Lacking.{never, refused_not}
 use Rattle.tta_designer.proofs.laws.circuit_by_status.Goals as goal
 
-module _ (u : Units) (M F : List ℕ) (before after : World) (old new : Output) where
-  of : (s : Status) (G : Type 0) → PutStages u (IsSubject u) (RefusesSubject u) (IsCircuitText u) (Lacks u) M F before after old new s G
-  of s G = put_stages u (IsSubject u) (RefusesSubject u) (IsCircuitText u) (Lacks u) M F before after old new s G
+module _ (u : Units) (view : CircuitView) (M F : List ℕ) (before after : World) (old new : Output) where
+  of : (s : Status) (G : Type 0) → PutStages u (IsSubject u) (RefusesSubject u) (IsCircuitText u view) (Lacks u) M F before after old new s G
+  of s G = put_stages u (IsSubject u) (RefusesSubject u) (IsCircuitText u view) (Lacks u) M F before after old new s G
 
-  by_status : (s : Status) → ShowsCircuit u M F before after old new s ↔ CircuitEndings u M F before after old new s
+  by_status : (s : Status) → ShowsCircuit u view M F before after old new s ↔ CircuitEndings u view M F before after old new s
   by_status status.Ok = (
     of status.Ok _ absurd none (λ m. absurd) (λ m e. refused_not u m.value e.1.text status.Ok (λ x. x) (λ x. x) e.1.is) (λ p same e. elim e [
       | inl put ↦ (same, (p, put))

@@ -18,4 +18,4 @@ returns-in-Ok g c =
     let words = c.as_slice.result.now in
     let memory = over (data_in whole) c.args.given.memory.items in
     subst (λ (given : List ℕ). MadeEnds (IsRunShown U c.args.request.now.view m whole.code (start m memory given) c.args.request.now.bound) no_memory (λ v. v.items) c.text_of_sim.result)
-    c.as_slice.ensures.value (c.text_of_sim.ensures (start m memory words) (c.in-Ok.ensures.start words) refl refl)
+    c.as_slice.ensures.value (c.text_of_sim.ensures (start m memory words) (c.in-Ok.ensures.start words) refl refl refl)

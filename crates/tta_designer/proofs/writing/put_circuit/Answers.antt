@@ -18,6 +18,6 @@ returns-in-Ok g c =
     let sink = g.S.Sink in
     let U = stated (λ v. (goal.OpUnit-dyn g v).unit_meaning v.1) c.args.units.now in
     let pair = c.in-Ok.pair in
-    puts U (IsSubject U) (RefusesSubject U) (IsCircuitText U) (Lacks U) c.args.names.now.machine.now c.args.names.now.subject.now pair.file pair.subject
+    puts U (IsSubject U) (RefusesSubject U) (IsCircuitText U c.args.names.now.view) (Lacks U) c.args.names.now.machine.now c.args.names.now.subject.now pair.file pair.subject
     (f.world c.args.files.now) (f.world c.subject_pair.new.files) (sink.output c.args.sink.now) (sink.output c.put_made.new.sink)
     (λ v. v.items) c.text_of_circuit-made.result c.put_made.result c.in-Ok.ensures.ends c.text_of_circuit-made.ensures c.put_made.ensures

@@ -10,5 +10,5 @@ returns-in-Ok g c =
     let file = c.args.file.now in
     let p = c.args.program.now in
     let whole = c.in-Ok.built.whole in
-    made_of (IsWholeCircuit U file whole) (IsBuiltCircuit U file p) (IsCauseOf U file.machine p) (λ v. v.items) c.text_of_whole.result
+    made_of (IsWholeCircuit U c.args.view file whole) (IsBuiltCircuit U c.args.view file p) (IsCauseOf U file.machine p) (λ v. v.items) c.text_of_whole.result
     (λ text is. record { whole = whole; built = c.in-Ok.ensures.built; is = is }) tt c.text_of_whole.ensures
