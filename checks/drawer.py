@@ -1,4 +1,4 @@
-"""Draws machines and code as docs/FORMATS.md says in the section Pictures, but for the look of the classes. It shares nothing with
+"""Draws machines and code as docs/OUTPUT.md says in the section Pictures, but for the look of the classes. It shares nothing with
 the program."""
 import re
 

@@ -18,9 +18,9 @@ COMMANDS = ["build ONE SEVEN OUT", "build THREE DOT OUT", "build THREE GREATEST 
             "exec THREE DOT WORDS 1000", "exec THREE SORT SORTED 1000", "run THREE IMG NONE 100", "run THREE IMG NONE 100 NONE", "check THREE IMG",
             "debug THREE IMG NONE STEPS", "sample 0 3 THREE", "net 20 NONE THREE IMG NONE THREE IMG NONE", "picture THREE", "picture THREE IMG", "picture THREE DOT", "info THREE", "info THREE IMG",
             "profile THREE IMG NONE 100", "profile THREE DOT WORDS 100", "play THREE IMG NONE 20", "prompt THREE IMG NONE", "stages THREE DOT", "stages THREE DOT --html", "play THREE DOT WORDS 20", "play THREE DOT WORDS 20 from 5", "rtl THREE IMG",
-            "rtl THREE DOT", "rtl net 4 NONE THREE IMG NONE THREE IMG NONE"]
+            "rtl THREE DOT", "cost THREE", "cost THREE IMG", "cost THREE DOT", "rtl net 4 NONE THREE IMG NONE THREE IMG NONE"]
 # The words that are commands of the second program.
-VIEWS = {"picture", "info", "profile", "play", "prompt", "stages", "rtl"}
+VIEWS = {"picture", "info", "profile", "play", "prompt", "stages", "rtl", "cost"}
 
 
 def folder(path):

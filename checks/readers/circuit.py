@@ -1,6 +1,7 @@
 """What a circuit does, clock by clock, by the text that `verilog.py` has read: each expression is a word of so many bits, unsigned, by the
 rules of IEEE 1364-2001 (5.4, 5.5) for its width and that of its place. What Verilog leaves unknown is made by chance here: the words of
 registers when the power comes, and those behind the end of a memory."""
+import re
 import sys
 
 from readers.verilog_forms import Binary, Call, Constant, Function, Invert, Join, Name, Not, Outside, Part, Read, Refused, Repeat, Select, Table
@@ -127,14 +128,28 @@ class Words:
 
 
 class Circuit:
-    """A module without instances, and the words that it holds. `own` are the operations that other files make, by their names."""
+    """A module without instances, and the words that it holds. `own` are the operations that other files make, by their names, and `files`
+    the texts of the files of memories."""
 
-    def __init__(self, module, by, own=None):
-        self.module, self.by, self.own = module, by, own or {}
+    def __init__(self, module, by, own=None, files=None):
+        self.module, self.by, self.own, self.files = module, by, own or {}, files or {}
         self.inputs = [name for name, (kind, width) in module.ports.items() if kind == "input" and name != "clk"]
         self.words = {name: by.getrandbits(width) for name, width in module.registers.items()}
-        self.memories = {name: [it.first.get(k, 0) for k in range(it.size)] for name, it in module.memories.items()}
+        self.memories = {name: self.first_words(name, it) for name, it in module.memories.items()}
         self.step = self.made()
+
+    def first_words(self, name, it):
+        """The words that a memory begins with. A file has a line for each, in as many digits to the base 16 as the word's bits ask for."""
+        if not it.file:
+            return [it.first.get(k, 0) for k in range(it.size)]
+        lines = [line for line in self.files[it.file].splitlines() if not line.startswith("//")]
+        digits = (it.width + 3) // 4
+        if len(lines) != it.size or not all(re.fullmatch(f"[0-9a-f]{{{digits}}}", line) for line in lines):
+            raise Refused(f"{it.file}: no {it.size} lines of {digits} digits")
+        words = [int(line, 16) for line in lines]
+        if any(word >> it.width for word in words):
+            raise Refused(f"{it.file}: a word of more than {it.width} bits")
+        return words
 
     def read(self, memory, address, width):
         return memory[address] if address < len(memory) else self.by.getrandbits(width)
@@ -162,6 +177,7 @@ class Circuit:
     def made(self):
         """A function of the inputs: the words of all names before a clock, what registers take, and what is written into memories."""
         module, room = self.module, {"read": self.read, "divided": self.divided}
+        room.update((f"m_{name}", words) for name, words in self.memories.items())
         for name, it in module.functions.items():
             self.function(name, it, room)
         widths = {name: module.ports[name][1] for name in self.inputs}

@@ -4,7 +4,7 @@ import re
 
 from readers.verilog_forms import Binary, Call, Constant, Function, Instance, Invert, Join, Memory, Module, Name, Not, Outside, Part, Read, Refused, Repeat, Select, Table, Taken
 
-TOKEN = re.compile(r"\s*(?:(//[^\n]*\n)|(`\w+)|(\d+'[db][0-9]+)|([\x22]\w+\.v[\x22])|(\d+)|([A-Za-z_]\w*)|(<=|\+:|&&|\|\||==|!=|<<|>>|[][(){}?:;,.=<>+\-*/%&|^~!@#]))")
+TOKEN = re.compile(r"\s*(?:(//[^\n]*\n)|([`$]\w+)|(\d+'[db][0-9]+)|([\x22]\w+\.(?:v|hex)[\x22])|(\d+)|([A-Za-z_]\w*)|(<=|\+:|&&|\|\||==|!=|<<|>>|[][(){}?:;,.=<>+\-*/%&|^~!@#]))")
 # Operators from the loosest to the tightest.
 LEVELS = (("||",), ("&&",), ("|",), ("^",), ("&",), ("==", "!="), ("<", ">"), ("<<", ">>"), ("+", "-"), ("*", "/", "%"))
 
@@ -191,7 +191,10 @@ class Reader:
             return self.declare(module, module.registers, name, width)
         self.want("[", "0", ":")
         size = self.number() + 1
-        self.want("]", ";", "initial", "begin", "`ifndef", "SYNTHESIS", "for", "(", "k", "=", "0", ";", "k", "<")
+        self.want("]", ";", "initial")
+        if self.takes("$readmemh"):
+            return self.declare(module, module.memories, name, Memory(width, size, {}, self.filled(name)))
+        self.want("begin", "`ifndef", "SYNTHESIS", "for", "(", "k", "=", "0", ";", "k", "<")
         # A space of no words stands as one that nothing reaches.
         if self.number() not in ((size,) if size > 1 else (0, 1)):
             raise Refused(f"{name}: not all of its words are set to 0")
@@ -203,7 +206,14 @@ class Reader:
             self.want("]", "=")
             first[address] = self.constant().word
             self.want(";")
-        self.declare(module, module.memories, name, Memory(width, size, first))
+        self.declare(module, module.memories, name, Memory(width, size, first, None))
+
+    def filled(self, name):
+        """The name of the file that has the words of a memory."""
+        self.want("(")
+        file = self.matching(r'"(\w+\.hex)"', "a file")[1]
+        self.want(",", name, ")", ";")
+        return file
 
     def function(self, module, kind):
         width, name, inputs = self.range(), self.name(), []

@@ -18,9 +18,9 @@ Select = namedtuple("Select", "test on off")
 Table = namedtuple("Table", "width inputs words default")
 Function = namedtuple("Function", "width inputs variable word part")
 Outside = namedtuple("Outside", "width inputs")
-# A memory with the first words that are not 0, what is taken at a clock (`address` is None where it is a register), and an instance of
+# A memory with the first words that are not 0, or with the name of the file that has all of them; what is taken at a clock (`address` is None where it is a register), and an instance of
 # another module with the name that is joined to each of its ports.
-Memory = namedtuple("Memory", "width size first")
+Memory = namedtuple("Memory", "width size first file")
 Taken = namedtuple("Taken", "enable name address word")
 Instance = namedtuple("Instance", "module name joined")
 
