@@ -1,9 +1,9 @@
-"""The tables of docs/FORMATS.md, from which help, explanations and reasons are told."""
+"""The tables of the pages on formats, commands, output and endings, from which help, explanations and reasons are told."""
 import os
 import re
 
 TOP = os.path.normpath(os.path.join(os.path.dirname(os.path.abspath(__file__)), ".."))
-PAGE = os.path.join(TOP, "docs", "FORMATS.md")
+PAGES = [os.path.join(TOP, "docs", f"{name}.md") for name in ("FORMATS", "COMMANDS", "OUTPUT", "ENDINGS")]
 # What `explain` takes: the section of a number's table, and the head of its first column.
 TABLES = {
     "status": ("Endings", "Status"),
@@ -20,8 +20,16 @@ FAULTS = range(60, 81)
 
 
 def section(name):
-    with open(PAGE, encoding="utf-8") as page:
-        return page.read().split(f"\n## {name}\n")[1].split("\n## ")[0]
+    """The text of the section that is called so, or else of the page that is."""
+    texts = []
+    for path in PAGES:
+        with open(path, encoding="utf-8") as page:
+            texts.append("\n" + page.read())
+    for head in (f"\n## {name}\n", f"\n# {name}\n"):
+        for text in texts:
+            if head in text:
+                return text.split(head)[1].split("\n## ")[0]
+    raise KeyError(name)
 
 
 def rows(name, head):

@@ -1,4 +1,4 @@
-"""What `./tta help` and `./tta explain` print, from the tables of docs/FORMATS.md."""
+"""What `./tta help` and `./tta explain` print, from the tables of the pages."""
 import sys
 import textwrap
 
@@ -20,7 +20,7 @@ Commands of the script, and what may stand before a command:
 ABOVE_STATUSES = """
 A command ends with one of these statuses, and says why on standard error:
 """
-BELOW = "\nREADME.md has a tour, and docs/FORMATS.md every text and number."
+BELOW = "\nREADME.md has a tour, and docs/FORMATS.md, COMMANDS.md, OUTPUT.md and ENDINGS.md\nhave every text and number."
 
 
 def print_form(form, what):

@@ -1,5 +1,5 @@
 """Says in words why a command was refused, below the program's own line: the line of the text that it is about, as compilers show it, and
-the one cause that tools/causes finds there. Where that finds none, it says what the table of docs/FORMATS.md has for the number. Its words are
+the one cause that tools/causes finds there. Where that finds none, it says what the table of the pages has for the number. Its words are
 the status, the line that the program printed, and the words of the command."""
 import os
 import re

@@ -1,5 +1,5 @@
 """What a machine lacks for `build`: the rule of coverage that it breaks, with the part that breaks it, and why no usable unit offers an
-operation. The rules are those of docs/FORMATS.md, section Coverage; the words of each begin as those of `info` do."""
+operation. The rules are those of docs/COMMANDS.md, section Coverage; the words of each begin as those of `info` do."""
 from causes import near
 
 RULES = {

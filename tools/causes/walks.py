@@ -1,5 +1,5 @@
 """Which of its two causes the code 80 of `check` has: a jump or call whose word no walk of the code knows, or walks that jump from one place to
-different words. The walks of `check` (docs/FORMATS.md, Proved safe) are taken here over the text of `dis`, as far as known words go."""
+different words. The walks of `check` (docs/COMMANDS.md, Walks) are taken here over the text of `dis`, as far as known words go."""
 import re
 from collections import namedtuple
 from itertools import product

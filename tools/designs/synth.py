@@ -63,7 +63,8 @@ class Synthesis:
         self.tools = [flow.encode(), script_of(flow), version_of("yosys"), version_of("nextpnr-ice40") if flow == "ice40" else b""]
 
     def path(self, core):
-        return kept.path_of([*self.tools, core])
+        # The lines above the module tell of which machine and image it is, and change nothing of what it costs.
+        return kept.path_of([*self.tools, core[max(0, core.find(b"module ")):]])
 
     def is_kept(self, core):
         """Whether the cost of a core is known without measuring it."""

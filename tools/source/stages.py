@@ -1,5 +1,5 @@
 """What the text of `stages` tells of a program's code: its blocks with their addresses and lines, and the homes of its variables. The
-form of the text is that of docs/FORMATS.md, section Stages."""
+form of the text is that of docs/OUTPUT.md, section Stages."""
 import re
 from collections import namedtuple
 

@@ -53,6 +53,11 @@ fn digit(byte: u8) -> Result<u8, FromHexError> {
     Ok(value as u8)
 }
 
+/// Two digits for each byte.
+pub fn encode(_: Global, data: &[u8]) -> Result<String, AllocError> {
+    Ok(data.iter().map(|byte| format!("{byte:02x}")).collect())
+}
+
 /// Reads two digits for each byte.
 pub fn decode_to_slice(digits: &[u8], bytes: &mut [u8]) -> Result<(), FromHexError> {
     if digits.len() != 2 * bytes.len() {
