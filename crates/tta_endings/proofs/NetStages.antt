@@ -1,5 +1,5 @@
 -- What the clause of `net` says at a status is what the one stage says that can end so.
-use Rattle.std.proofs.Common.{◌≡◌, inl, inr, ℕ, Bool, true, false, List, length, Option, None, Some, refl, sym, ap, subst, ◌∙◌, ⊎_elim}
+use Rattle.std.proofs.Common.{◌≡◌, ◌⊎◌, inl, inr, ℕ, Bool, true, false, List, length, Option, None, Some, refl, sym, ap, subst, ◌∙◌, ⊎_elim}
 use Rattle.tta_endings.specs.Cited.{Store, World, IsUntouched, Output, IsQuiet, IsPut, IsCut, Units, Core, Network, Joined, joined, AreAtRest, cycles, first_states, Feeds, StepResult, HasEnded, Status, HasText, Held, ReadFails, ReadFailed, FileFails, HasMachine, RefusesMachine, IsImageFor, RefusesImage, RefusesInput, HasPair, AreLinks, RefusesLinks, cores_in, name_of, word_of, as_core, HasCores, CoreFileFails, CoreFails, CoresFail, net_text, rounds_status, HasMadeRounds, NetReports, Nets}
 use Rattle.tta_code.specs.Cycle.{State}
 use Rattle.tta_given.specs.declared.status.Status.TheVariants as status
@@ -215,39 +215,51 @@ module _ (u : Units) (feeds : Feeds) (cores : List Core) (memories : List (List 
   pub made_cut : (is_running : Bool) → Come is_running IsPartPut → Made status.WriteFault
   made_cut is_running c = record { is_running = is_running; last = c.last; ended = ended_with c.ended (c.ended.stands, λ ok. absurd cc) }
 
--- ---- the stages of the command
+-- ---- the stages of a command of a net
 
-abbrev pub NetStages : Units → (rounds : ℕ) → (LINKS : List ℕ) → (names : List (List ℕ)) → (before after : World) → (old new : Output) → Status → (G : Type 0) → Type 0
-NetStages u rounds LINKS names before after old new s G =
+-- How a command ends that reads the links of a net and its cores, and then does the rest.
+abbrev pub NetEnds : Units → (LINKS : List ℕ) → (names : List (List ℕ)) → (before after : World) → (old new : Output) → Status
+    → (Rest : Feeds → List Core → (memories : List (List ℕ)) → Type 0) → Type 0
+NetEnds u LINKS names before after old new s Rest =
     let count = cores_in (length names) in
-    (ReadFails LINKS 2 before after s → IsQuiet old new → G)
-    → (IsUntouched before after × HasText before.contents LINKS (λ bytes. RefusesLinks count bytes s) → IsQuiet old new → G)
-    → (Held (AreLinks count) before.contents LINKS → OfCore u before.contents names count (λ k. CoreEndings u names k before after s) → IsQuiet old new → G)
-    → ((links : Held (AreLinks count) before.contents LINKS) (has : HasCores u before.contents names count)
-    → IsUntouched before after → NetReports u links.value has.cores has.memories rounds old new s → G)
-    → Nets u rounds LINKS names before after old new s → G
+    (FileFails (RefusesLinks count) LINKS 2 before after s × IsQuiet old new)
+    ⊎ ((links : Held (AreLinks count) before.contents LINKS)
+    × ((CoresFail u names count before after s × IsQuiet old new)
+    ⊎ ((has : HasCores u before.contents names count) × IsUntouched before after × Rest links.value has.cores has.memories)))
 
-pub net_stages : (u : Units) (rounds : ℕ) (LINKS : List ℕ) (names : List (List ℕ)) (before after : World) (old new : Output) (s : Status) (G : Type 0)
-    → NetStages u rounds LINKS names before after old new s G
-net_stages u rounds LINKS names before after old new s G a b c d (inl (inl x, quiet)) = a x quiet
-net_stages u rounds LINKS names before after old new s G a b c d (inl (inr x, quiet)) = b x quiet
-net_stages u rounds LINKS names before after old new s G a b c d (inr (links, inl (x, quiet))) =
-    c links (first_ends u names (cores_in (length names)) before after s x) quiet
-net_stages u rounds LINKS names before after old new s G a b c d (inr (links, inr (has, same, x))) = d links has same x
+module _ (u : Units) (LINKS : List ℕ) (names : List (List ℕ)) (before after : World) (old new : Output) (s : Status)
+    (Rest : Feeds → List Core → (memories : List (List ℕ)) → Type 0) where
+  abbrev count : ℕ
+  count = cores_in (length names)
 
--- a file that is at fault
-pub net_at : (u : Units) (rounds : ℕ) (LINKS : List ℕ) (names : List (List ℕ)) (before after : World) (old new : Output) (s : Status) (Fault : List ℕ → Type 0) (word : ℕ)
-    → (word ≡ 2 → Fault LINKS → ReadFails LINKS 2 before after s)
-    → ((k : ℕ) → CoreFault u before.contents names Fault word k → CoreEndings u names k before after s)
-    → IsQuiet old new → NetFault u before.contents LINKS names Fault word → Nets u rounds LINKS names before after old new s
-net_at u rounds LINKS names before after old new s Fault word links core quiet (inl e) = inl (inl (links e.0 e.1), quiet)
-net_at u rounds LINKS names before after old new s Fault word links core quiet (inr e) =
-    let f = e.1 in
-    inr (
-      e.0,
-      inl (
-        first_ended u names (cores_in (length names)) before after s
-            (record { core = f.core; within = f.within; earlier = f.earlier; is = core f.core f.is }),
-        quiet,
-      ),
-    )
+  abbrev pub NetStages : (G : Type 0) → Type 0
+  NetStages G =
+      (ReadFails LINKS 2 before after s → IsQuiet old new → G)
+      → (IsUntouched before after × HasText before.contents LINKS (λ bytes. RefusesLinks count bytes s) → IsQuiet old new → G)
+      → (Held (AreLinks count) before.contents LINKS → OfCore u before.contents names count (λ k. CoreEndings u names k before after s)
+      → IsQuiet old new → G)
+      → ((links : Held (AreLinks count) before.contents LINKS) (has : HasCores u before.contents names count)
+      → IsUntouched before after → Rest links.value has.cores has.memories → G)
+      → NetEnds u LINKS names before after old new s Rest → G
+
+  pub net_stages : (G : Type 0) → NetStages G
+  net_stages G a b c d (inl (inl x, quiet)) = a x quiet
+  net_stages G a b c d (inl (inr x, quiet)) = b x quiet
+  net_stages G a b c d (inr (links, inl (x, quiet))) = c links (first_ends u names count before after s x) quiet
+  net_stages G a b c d (inr (links, inr (has, same, x))) = d links has same x
+
+  -- a file that is at fault
+  pub net_at : (Fault : List ℕ → Type 0) (word : ℕ) → (word ≡ 2 → Fault LINKS → ReadFails LINKS 2 before after s)
+      → ((k : ℕ) → CoreFault u before.contents names Fault word k → CoreEndings u names k before after s)
+      → IsQuiet old new → NetFault u before.contents LINKS names Fault word → NetEnds u LINKS names before after old new s Rest
+  net_at Fault word links core quiet (inl e) = inl (inl (links e.0 e.1), quiet)
+  net_at Fault word links core quiet (inr e) =
+      let f = e.1 in
+      inr (
+        e.0,
+        inl (
+          first_ended u names count before after s
+              (record { core = f.core; within = f.within; earlier = f.earlier; is = core f.core f.is }),
+          quiet,
+        ),
+      )

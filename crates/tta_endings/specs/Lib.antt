@@ -10,6 +10,7 @@ pub mod Run
 pub mod Debug
 pub mod Sample
 pub mod NetEndings
+pub mod NetTextEndings
 pub mod Completes
 pub mod ConvertedCompletes
 pub mod WriteCompletes

@@ -11,6 +11,7 @@ ghost use Rattle.tta_endings.specs.Sample.{SampleByStatus};
 ghost use Rattle.tta_endings.specs.BuildConverted.{BuildConvertedByStatus};
 ghost use Rattle.tta_endings.specs.Ifconv.{IfconvByStatus};
 ghost use Rattle.tta_endings.specs.NetEndings.{NetByStatus};
+ghost use Rattle.tta_endings.specs.NetTextEndings.{NetTextByStatus};
 ghost use Rattle.tta_endings.specs.Completes.{BuildCompletes};
 ghost use Rattle.tta_endings.specs.ConvertedCompletes.{BuildConvertedCompletes, IfconvCompletes};
 ghost use Rattle.tta_endings.specs.WriteCompletes.{AsmCompletes, DisCompletes};
@@ -226,4 +227,9 @@ pub fn ifconv_by_status()
 /// What holds where `net` ends with a status, for each status.
 pub fn net_by_status()
     ensures { NetByStatus }
+{}
+
+/// What holds where `rtl net` ends with a status, for each status.
+pub fn net_text_by_status()
+    ensures { NetTextByStatus }
 {}

@@ -1,5 +1,5 @@
 use Rattle.std.proofs.Common.{◌↔◌, ℕ, List, length, inl, inr}
-use Rattle.tta_endings.specs.Cited.{World, Output, Units, Status, ReadFailed, cores_in, Nets}
+use Rattle.tta_endings.specs.Cited.{World, Output, Units, Core, Feeds, Status, ReadFailed, cores_in, NetReports, Nets}
 use Rattle.tta_given.specs.declared.status.Status.TheVariants as status
 use Rattle.tta_given.specs.Held.{IsTooLong}
 use Rattle.tta_given.proofs.Stages.{none}
@@ -8,8 +8,11 @@ use Rattle.tta_endings.proofs.NetStages.{first_ended, refused_apart, refused_wit
 use Rattle.tta_endings.proofs.laws.net_by_status.Goals as goal
 
 module _ (u : Units) (rounds : ℕ) (LINKS : List ℕ) (names : List (List ℕ)) (before after : World) (old new : Output) where
-  of : (s : Status) (G : Type 0) → NetStages u rounds LINKS names before after old new s G
-  of s G = net_stages u rounds LINKS names before after old new s G
+  abbrev Reports : Status → Feeds → List Core → (memories : List (List ℕ)) → Type 0
+  Reports s feeds cores memories = NetReports u feeds cores memories rounds old new s
+
+  of : (s : Status) (G : Type 0) → NetStages u LINKS names before after old new s (Reports s) G
+  of s G = net_stages u LINKS names before after old new s (Reports s) G
 
   abbrev count : ℕ
   count = cores_in (length names)
@@ -54,12 +57,12 @@ module _ (u : Units) (rounds : ℕ) (LINKS : List ℕ) (names : List (List ℕ))
   by_status (status.ReadFault word) = (
     of (status.ReadFault word) _ (λ e quiet. (quiet, inl e)) none (λ l e quiet. (quiet, inr (l, e)))
         (λ l has same e. absurd (rounds_end e.is_running _ (status.ReadFault word) e.ended.stands.0.0)),
-    λ e. net_at u rounds LINKS names before after old new (status.ReadFault word) (λ name. ReadFailed name before after) word (λ at is. (at, is)) (λ k is. is) e.0 e.1,
+    λ e. net_at u LINKS names before after old new (status.ReadFault word) (Reports (status.ReadFault word)) (λ name. ReadFailed name before after) word (λ at is. (at, is)) (λ k is. is) e.0 e.1,
   )
   by_status (status.TooLong word) = (
     of (status.TooLong word) _ (λ e quiet. (quiet, inl e)) none (λ l e quiet. (quiet, inr (l, e)))
         (λ l has same e. absurd (rounds_end e.is_running _ (status.TooLong word) e.ended.stands.0.0)),
-    λ e. net_at u rounds LINKS names before after old new (status.TooLong word) (λ name. IsTooLong name before after) word (λ at is. (at, is)) (λ k is. is) e.0 e.1,
+    λ e. net_at u LINKS names before after old new (status.TooLong word) (Reports (status.TooLong word)) (λ name. IsTooLong name before after) word (λ at is. (at, is)) (λ k is. is) e.0 e.1,
   )
   by_status status.NoMemory = (
     of status.NoMemory _ (λ e quiet. (e, quiet)) (λ e quiet. (e.0, quiet)) (λ l e quiet. (e.is, quiet)) (λ l has same e. (same, e)),
