@@ -14,7 +14,7 @@ run_style_text =
 -- the style of the current instruction and of words
 unfoldable pub run_looks_text : List ℕ
 run_looks_text =
-    codes ".now td{background:#fff;border-top:2px solid #1d4ed8;border-bottom:2px solid #1d4ed8}\n.now .active{background:#1d4ed8;color:#fff;font-weight:700}\n.now .passed{text-decoration:line-through;color:#5b6673}\n.slot{border-bottom:2px dotted #1d4ed8}\n.unreached td{color:#5b6673;font-style:italic}\n.word{font-weight:400}.active .word:not(:empty)::before{content:' = '}\n.cell{display:inline-block;padding:0 .4rem;margin:0 .3rem .15rem 0;border:1px solid #c3ccd6}\n.changed{background:#fde6c4;border-color:#b45309;font-weight:700}\n.due{display:inline-block;height:.6rem;background:#1d4ed8;margin:0 .6rem 0 .3rem}\n"
+    codes ".now td{background:#fff;border-top:2px solid #1d4ed8;border-bottom:2px solid #1d4ed8}\n.now .active{background:#1d4ed8;color:#fff;font-weight:700}\n.now .passed{text-decoration:line-through;color:#5b6673}\n.slot{border-bottom:2px dotted #1d4ed8}\n.unreached td{color:#5b6673;font-style:italic}\n.word{display:none}.active .word{display:inline;font-weight:400}.active .word:not(:empty)::before{content:' = '}\n.cell{display:inline-block;padding:0 .4rem;margin:0 .3rem .15rem 0;border:1px solid #c3ccd6}\n.changed{background:#fde6c4;border-color:#b45309;font-weight:700}\n.due{display:inline-block;height:.6rem;background:#1d4ed8;margin:0 .6rem 0 .3rem}\n"
 
 -- the style of the picture of the machine
 unfoldable pub run_picture_looks_text : List ℕ

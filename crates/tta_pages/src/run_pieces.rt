@@ -51,7 +51,7 @@ pub fn push_run_looks(out: &mut Vec<u8>) -> Result<(), AllocError>
         .now .passed{text-decoration:line-through;color:#5b6673}\n\
         .slot{border-bottom:2px dotted #1d4ed8}\n\
         .unreached td{color:#5b6673;font-style:italic}\n\
-        .word{font-weight:400}.active .word:not(:empty)::before{content:' = '}\n\
+        .word{display:none}.active .word{display:inline;font-weight:400}.active .word:not(:empty)::before{content:' = '}\n\
         .cell{display:inline-block;padding:0 .4rem;margin:0 .3rem .15rem 0;border:1px solid #c3ccd6}\n\
         .changed{background:#fde6c4;border-color:#b45309;font-weight:700}\n\
         .due{display:inline-block;height:.6rem;background:#1d4ed8;margin:0 .6rem 0 .3rem}\n\
