@@ -62,6 +62,13 @@ impl Machine {
     ghost use Rattle.std.specs.Prelude.{◌≡◌, ◌^◌, ◌≤◌};
     ghost use Rattle.tta_arch.specs.Rules.{IsMachine};
 
+    /// That a machine keeps the rules of machines, for a proof that asks for it. It does nothing.
+    pub fn rules(&self)
+        ensures { IsMachine self.now }
+    {
+        let _delay = self.control.delay;
+    }
+
     /// How many addresses an instruction can have: 2 to the number of address bits, at most 65,536.
     #[tactic(auto, using(crate::proofs::Facts::address_most))]
     pub fn addresses(&self) -> u32

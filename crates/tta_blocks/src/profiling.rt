@@ -4,7 +4,6 @@ ghost use Rattle.std.specs.Prelude.{◌≡◌, ◌+◌, ◌<◌, ◌^◌, length
 ghost use Rattle.tta_ops.specs.Set.{stated};
 ghost use Rattle.tta_code.specs.Cycle.{State};
 ghost use Rattle.tta_code.specs.Legal.{IsLegalCode};
-ghost use Rattle.tta_arch.specs.Rules.{IsMachine};
 ghost use Rattle.tta_link.specs.Linked.{starts_from};
 ghost use Rattle.tta_sim.specs.Held.{Stands, IsRunOf};
 ghost use Rattle.tta_stages.specs.Stages.{AreStages};
@@ -61,13 +60,6 @@ fn tell_from(
     Ok(out)
 }
 
-/// A machine keeps the rules of machines.
-fn keep_rules(m: &Machine)
-    ensures { IsMachine m.now }
-{
-    let _control = &m.control;
-}
-
 /// The address at which the code of each block begins, and at last the one where the code ends. It
 /// fails only where there is no memory.
 fn starts_of(alloc: Global, on: &Compiled<'_>) -> Result<Vec<u32>, AllocError>
@@ -77,7 +69,7 @@ fn starts_of(alloc: Global, on: &Compiled<'_>) -> Result<Vec<u32>, AllocError>
         ≡ starts_from 0 on.now.stages.now.planned.placed.items) }
     ensures legal { IsLegalCode on.now.m.now on.now.stages.now.code }
 {
-    keep_rules(on.m);
+    on.m.rules();
     block_starts(alloc, on.stages.planned.placed.as_slice())
 }
 

@@ -8,7 +8,7 @@ ghost use Rattle.tta_program.specs.Program.{first_outside};
 ghost use Rattle.tta_build.specs.Converted.{IsBuiltConverted, HasConvertedCause};
 
 use crate::error::BuildError;
-use crate::program::{Built, build, keep_rules};
+use crate::program::{Built, build};
 use std::alloc::Global;
 use tta_arch::Machine;
 use tta_ifconv::convert;
@@ -34,7 +34,7 @@ pub fn build_converted(
     ensures cause { let U = stated unit_meaning units.now in
         IfErr result (λ e. HasConvertedCause U m.now p.now e) }
 {
-    keep_rules(m, p);
+    p.rules();
     let q = convert(alloc, p)?;
     match build(alloc, m, &q, units) {
         Ok(built) => Ok(built),

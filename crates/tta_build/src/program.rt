@@ -2,9 +2,7 @@
 
 ghost use Rattle.std.specs.Prelude.{◌≡◌, None, IfOk, IfErr};
 ghost use Rattle.tta_ops.specs.Set.{stated};
-ghost use Rattle.tta_arch.specs.Rules.{IsMachine};
 ghost use Rattle.tta_arch.specs.Over as arch;
-ghost use Rattle.tta_program.specs.Rules.{IsProgram};
 ghost use Rattle.tta_program.specs.Over as program;
 ghost use Rattle.tta_program.specs.Program.{first_outside};
 ghost use Rattle.tta_build.specs.Value.{IsCompiled, IsMadeOf};
@@ -30,15 +28,6 @@ pub struct Built {
     pub whole: Whole,
 }
 
-/// Each machine keeps the rules of machines, and each program those of programs.
-pub fn keep_rules(m: &Machine, p: &Program)
-    ensures machine { IsMachine m.now }
-    ensures program { IsProgram p.now }
-{
-    let _control = &m.control;
-    let _main = &p.main;
-}
-
 /// What the compiler makes of a program for a machine with its net.
 fn compile_on(
     alloc: Global,
@@ -54,7 +43,8 @@ fn compile_on(
     ensures cause { let U = stated unit_meaning units.now in
         IfErr result (λ e. HasCause U on.now.machine.now p.now e) }
 {
-    keep_rules(on.machine, p);
+    on.machine.rules();
+    p.rules();
     if is_direct(on, p) {
         return compile_direct(alloc, on, p);
     }

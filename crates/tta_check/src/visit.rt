@@ -129,7 +129,7 @@ fn where_acts(
 fn control_of(m: &Machine, i: &Instruction) -> Option<Move>
     ensures { option_map effect_of result ≡ controller (effects_of m.now i.now) }
 {
-    let _control = &m.control;
+    m.rules();
     controller(i.moves.as_slice())
 }
 

@@ -42,6 +42,6 @@ pub fn count_words(code: &Code, m: &Machine) -> u32
     ensures few { result ≤ 65536 }
 {
     // So that the rules of machines are known here, which bound the addresses.
-    let _control = &m.control;
+    m.rules();
     code.words.len() as u32
 }

@@ -113,7 +113,7 @@ pub fn short(on: &On<'_>, bus: usize) -> Cost
     ensures { let T = on.now.applied.now in let M = on.now.m.now in
         result ≡ cost_of T M (p.field_part M (c.Signal s.Whole) (s.ShortOf bus)) }
 {
-    let _rules = on.m.addresses();
+    on.m.rules();
     if is_signed(on.m, bus) {
         Cost::choice(32, Cost::free(), Cost::free(), Cost::free())
     } else {
@@ -153,7 +153,7 @@ pub fn long(on: &On<'_>) -> Cost
         result ≡ cost_of T M (p.field_part M (c.Signal s.Whole) s.LongOf) }
 {
     let m = on.m;
-    let _rules = m.addresses();
+    m.rules();
     long_from(on, 0, m.templates.as_slice())
 }
 

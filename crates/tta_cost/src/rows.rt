@@ -272,7 +272,7 @@ fn put_underways(parts: &mut Parts, of: &Clock<'_>)
         (range_with_len 1 M.control.delay)) parts.old }
 {
     let m = of.on.m;
-    let _rules = m.addresses();
+    m.rules();
     put_row(parts, of, Row::Underway, 1, m.control.delay);
 }
 

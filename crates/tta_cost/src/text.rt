@@ -254,7 +254,7 @@ fn word_count(m: &Machine, whole: &Whole) -> u32
     ensures { result ≡ length whole.now.code.words }
 {
     // An address has at most 16 bits by the rules of a machine.
-    let _control = &m.control;
+    m.rules();
     whole.code.words.len() as u32
 }
 

@@ -104,7 +104,7 @@ fn read_whole(
 {
     let m = target.machine;
     // An address has at most 16 bits by the rules of a machine, so the words are few.
-    let _control = &m.control;
+    m.rules();
     let count = read_header(m, target.layout.width(), digest, bytes)?;
     let init = read_data(alloc, m, bytes)?;
     let words = read_words(alloc, target, body_of(bytes), count)?;

@@ -243,7 +243,7 @@ pub fn write_image(
     ensures { IfOk result (λ v. Image m.now digest.now whole.now v.items) }
 {
     // The sources and destinations of a bus are in order by the rules of a machine.
-    let _control = &m.control;
+    m.rules();
     let layout = Layout::of(alloc, m)?;
     let body = pack_words(alloc, &layout, m, whole.code.words.as_slice())?;
     let mut bytes = Vec::new(alloc);

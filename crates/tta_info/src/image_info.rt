@@ -101,7 +101,7 @@ pub fn tell_image(
     ensures { IfOk result (λ v. v.items ≡ info_of_image m.now digest.now whole.now) }
 {
     // An address has at most 16 bits by the rules of a machine.
-    let _control = &m.control;
+    m.rules();
     let bits = width_of(alloc, m)?;
     let mut out = Vec::new(alloc);
     push_sizes(

@@ -9,4 +9,4 @@ pub mod numbers;
 
 pub use items::{BlockList, Item, ItemSource, LongValue, Placed, PlacedItem, Slot};
 pub use laws::{first_fit_respects, holds_each_address};
-pub use lists::{carried, is_joined, is_list, keeps_rules};
+pub use lists::{carried, is_joined, is_list};

@@ -14,13 +14,6 @@ use tta_connect::{Joined, Net};
 /// How many items a list has at most.
 const MAX_ITEMS: usize = 1 << 24;
 
-/// That a machine keeps the rules of machines, for whoever has to say so. It does nothing.
-pub fn keeps_rules(m: &Machine)
-    ensures { IsMachine m.now }
-{
-    let _delay = m.control.delay;
-}
-
 /// The greatest address of a machine.
 fn greatest_address(m: &Machine) -> u32
     ensures value { Source.Value result ≡ carried m.now (ItemSource.Address 0) }

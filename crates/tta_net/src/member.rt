@@ -55,7 +55,7 @@ impl Member {
         ensures { IfOk result (IsFirst core.now base feeder memory.items rounds) }
     {
         // So that it is known here that the machine's rules hold.
-        let _ = &core.machine.control;
+        core.machine.rules();
         let state = SimState::load(alloc, &core.machine, &core.code, memory)?;
         let output = Outputs::with_room(alloc, rounds as usize)?;
         Ok(Member {

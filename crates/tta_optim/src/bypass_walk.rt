@@ -13,7 +13,7 @@ use tta_arch::{Dest, GuardRef, Machine, Source};
 use tta_connect::Joined;
 use tta_list::entry_at;
 use tta_moves::numbers::register;
-use tta_moves::{Item, ItemSource, is_joined, keeps_rules};
+use tta_moves::{Item, ItemSource, is_joined};
 
 /// Whether a file has registers of 32 bits.
 fn is_wide_file(m: &Machine, file: u8) -> bool
@@ -103,7 +103,7 @@ pub fn bypass_items(
     requires { list_all (has_slot on.now.machine.now) items.now ≡ true }
     ensures { IfOk result (λ v. v.items ≡ bypass_items on.now.machine.now [] items.now) }
 {
-    keeps_rules(on.machine);
+    on.machine.rules();
     notes.begin();
     let mut kept = Vec::with_capacity(alloc, items.len())?;
     for (at, x) in items.iter().enumerate() {

@@ -8,7 +8,7 @@ ghost use Rattle.tta_optim.specs.Passes.{dead_items};
 use crate::wanted::Wanted;
 use std::alloc::{AllocError, Global};
 use tta_arch::Machine;
-use tta_moves::{Item, keeps_rules};
+use tta_moves::Item;
 
 /// The items but those whose write nothing of what stays reads, in one walk up.
 pub fn dead_items(
@@ -21,7 +21,7 @@ pub fn dead_items(
     requires { list_all (has_slot m.now) items.now ≡ true }
     ensures { IfOk result (λ v. v.items ≡ dead_items m.now live.now items.now) }
 {
-    keeps_rules(m);
+    m.rules();
     wanted.end(live);
     let mut kept = Vec::with_capacity(alloc, items.len())?;
     let mut first = items.len();

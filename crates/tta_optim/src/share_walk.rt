@@ -11,7 +11,7 @@ use crate::notes::Notes;
 use std::alloc::{AllocError, Global};
 use tta_arch::{Dest, Machine, Source};
 use tta_moves::numbers::operand;
-use tta_moves::{Item, ItemSource, keeps_rules};
+use tta_moves::{Item, ItemSource};
 
 /// Whether two ends are one.
 fn same_end(a: Source, b: Source) -> bool
@@ -80,7 +80,7 @@ pub fn share_items(
     requires { list_all (has_slot m.now) items.now ≡ true }
     ensures { IfOk result (λ v. v.items ≡ share_items m.now [] items.now) }
 {
-    keeps_rules(m);
+    m.rules();
     notes.begin();
     let mut kept = Vec::with_capacity(alloc, items.len())?;
     for x in items {

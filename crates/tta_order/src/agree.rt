@@ -19,7 +19,7 @@ use std::alloc::{AllocError, Global};
 use tta_arch::{Machine, Op};
 use tta_connect::Net;
 use tta_list::Items;
-use tta_moves::{BlockList, Item, is_list, keeps_rules};
+use tta_moves::{BlockList, Item, is_list};
 
 /// Whether an item takes a word of the input.
 fn may_wait(m: &Machine, x: Item) -> bool
@@ -215,7 +215,7 @@ impl Checker {
         ensures no_more { IfOk result (λ o. IfSome o (λ r. AsksNoMore m.now b.now.items r.items)) }
         ensures live { IfOk result (λ o. IfSome o (λ r. r.live_out ≡ b.now.live_out)) }
     {
-        keeps_rules(m);
+        m.rules();
         let items = b.items.as_slice();
         let live = b.live_out.as_slice();
         let front = settled(m, items);

@@ -2,7 +2,6 @@
 
 ghost use Rattle.std.specs.Prelude.{◌≡◌, ◌++◌, IfOk, OnOk};
 ghost use Rattle.tta_ops.specs.Set.{stated};
-ghost use Rattle.tta_arch.specs.Rules.{IsMachine};
 ghost use Rattle.tta_link.specs.Linked.{starts_from};
 ghost use Rattle.tta_stages.specs.Stages.{AreStages};
 ghost use Rattle.tta_stages.specs.Text.{homes_in};
@@ -26,13 +25,6 @@ fn homes_in(choice: &Option<Choice>) -> &[(u8, u8)]
     }
 }
 
-/// A machine keeps the rules of machines.
-fn keep_rules(m: &Machine)
-    ensures { IsMachine m.now }
-{
-    let _control = &m.control;
-}
-
 /// The address at which the code of each block begins, and at last the one where the code ends.
 fn starts_of(alloc: Global, on: &Compiled<'_>) -> Result<Vec<u32>, AllocError>
     requires { AreStages (stated unit_meaning on.now.units.now) on.now.m.now on.now.p.now
@@ -40,7 +32,7 @@ fn starts_of(alloc: Global, on: &Compiled<'_>) -> Result<Vec<u32>, AllocError>
     ensures { IfOk result (λ v. v.items
         ≡ starts_from 0 on.now.stages.now.planned.placed.items) }
 {
-    keep_rules(on.m);
+    on.m.rules();
     block_starts(alloc, on.stages.planned.placed.as_slice())
 }
 

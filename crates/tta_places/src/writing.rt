@@ -96,7 +96,7 @@ fn template_of(m: &Machine, l: Long) -> Option<&Template>
     ensures there { IfSome (option_copied result)
         (λ t. IsTrue (is_place (KeptImm t.imm t.reg))) }
 {
-    let _ = &m.templates;
+    m.rules();
     template_at(m, l)
 }
 

@@ -132,7 +132,7 @@ fn acts_in(sim: &Sim, basis: &Basis<'_>) -> Option<ControlMove>
         → option_map acting result ≡ acts_in basis.now.code.now.words s }
 {
     let m = basis.m;
-    let _ = &m.buses;
+    m.rules();
     first_in(sim, slots_of(coming(sim, basis.code)))
 }
 

@@ -95,7 +95,7 @@ fn count_cycle(
         (HasWritten followed.new.row) s counts.old counts.new result }
 {
     let m = basis.m;
-    let _ = &m.buses;
+    m.rules();
     let pc = sim.pc();
     let came = coming(&*sim, basis.code);
     let stopped = stopped_next(&*sim, basis);

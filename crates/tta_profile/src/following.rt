@@ -39,7 +39,7 @@ pub fn note_carried(followed: &mut Followed, basis: &Basis<'_>, sim: &Sim) -> Re
         ≡ map (carried s) (slots_of (coming basis.now.code.now.words s))) }
 {
     let m = basis.m;
-    let _ = &m.buses;
+    m.rules();
     let slots = slots_of(coming(sim, basis.code));
     followed.carried.clear();
     push_carried(&mut followed.carried, &followed.row, sim, slots)?;

@@ -46,3 +46,14 @@ impl Model for Program {
     ghost invariant = { λ p.
         IsProgram (record { procs = p.procs; main = p.main; init = p.init }) };
 }
+
+impl Program {
+    ghost use Rattle.tta_program.specs.Rules.{IsProgram};
+
+    /// That a program keeps the rules of programs, for a proof that asks for it. It does nothing.
+    pub fn rules(&self)
+        ensures { IsProgram self.now }
+    {
+        let _main = self.main;
+    }
+}

@@ -10,7 +10,7 @@ use std::alloc::{AllocError, Global};
 use tta_arch::{Machine, Source};
 use tta_connect::Joined;
 use tta_moves::numbers::{PLACES, read_place};
-use tta_moves::{Item, ItemSource, is_joined, keeps_rules};
+use tta_moves::{Item, ItemSource, is_joined};
 use tta_order::parts::{is_unguarded, source_of, written_number};
 
 /// The sources from which the word of a place has come, the newest first.
@@ -142,7 +142,7 @@ pub fn is_straight(
     ensures { IfOk result (λ is. is ≡ true
         → is_straight on.now.machine.now (Some hub) items.now ≡ true) }
 {
-    keeps_rules(on.machine);
+    on.machine.rules();
     let mut trails = vec![in alloc; EMPTY; PLACES]?;
     for x in items {
         if may_detour(on, hub, trails.as_slice(), *x) {

@@ -47,7 +47,7 @@ pub fn code_bytes(
     requires data { fits on.now.m.now.data_words whole.now.init ≡ true }
     ensures { IfOk result (λ v. AreCodeBytes on.now.m.now whole.now.code v.items) }
 {
-    let _rules = on.m.addresses();
+    on.m.rules();
     // Its bits are fewer than 2 to the 32, and so an image has fewer than 2 to the 64.
     let _width = bits_of(on.layout);
     let image = write_image(alloc, whole, on.m, digest)?;

@@ -225,7 +225,7 @@ fn push_circuit(
         (h.circuit_of M whole.now.code wanted.now.first.now)) }
 {
     let m = wanted.m;
-    let _rules = m.addresses();
+    m.rules();
     let layout = Layout::of(alloc, m)?;
     let on = On { m, layout: &layout };
     let body = code_bytes(alloc, &on, digest, whole)?;

@@ -15,7 +15,7 @@ use tta_arch::Machine;
 use tta_connect::{Joined, Net};
 use tta_depend::Bounds;
 use tta_list::Items;
-use tta_moves::{BlockList, Item, Placed, PlacedItem, keeps_rules};
+use tta_moves::{BlockList, Item, Placed, PlacedItem};
 use tta_reserve::Table;
 
 /// Where an item fits first beside the booked items, in the cycles from its bound up to an end. It
@@ -119,7 +119,7 @@ impl Placer {
         ensures respects { IfOk result (λ p. Respects m.now b.now.items p) }
         ensures room { IfOk result (λ p. HasRoom m.now b.now.items p) }
     {
-        keeps_rules(m);
+        m.rules();
         let on = Joined { machine: m, net };
         self.bounds.clear(m);
         self.table.clear();

@@ -173,7 +173,7 @@ impl SimState {
             (if result then next_state U m.now code.now s else s) }
     {
         // So that it is known here that the machine's rules hold.
-        let _ = &m.control;
+        m.rules();
         match self.run.control.phase {
             Phase::Running => {}
             Phase::Halted | Phase::Fault(_) => return false,

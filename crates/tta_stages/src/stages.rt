@@ -2,7 +2,6 @@
 
 ghost use Rattle.std.specs.Prelude.{◌≡◌, IfOk, IfErr};
 ghost use Rattle.tta_ops.specs.Set.{stated};
-ghost use Rattle.tta_arch.specs.Rules.{IsMachine};
 ghost use Rattle.tta_arch.specs.Over.{StandsOver};
 ghost use Rattle.tta_program.specs.Rules.{IsProgram};
 ghost use Rattle.tta_build.specs.Lowered.{IsAnalysed};
@@ -31,15 +30,6 @@ pub struct Stages {
     pub planned: Planned,
     /// The code of the placements, one after another.
     pub code: Code,
-}
-
-/// Each machine keeps the rules of machines, and each program those of programs.
-pub fn keep_rules(m: &Machine, p: &Program)
-    ensures machine { IsMachine m.now }
-    ensures program { IsProgram p.now }
-{
-    let _control = &m.control;
-    let _main = &p.main;
 }
 
 /// What the compiler makes of a program, with its intervals and parts.
@@ -97,7 +87,8 @@ pub fn stages_of(
     ensures cause { let U = stated unit_meaning units.now in
         IfErr result (λ e. HasCause U m.now p.now e) }
 {
-    keep_rules(m, p);
+    m.rules();
+    p.rules();
     let value = compile(alloc, m, p, units)?;
     let stages = told(alloc, p, value)?;
     Ok(stages)

@@ -134,7 +134,7 @@ impl Seq {
             Phase::Stopped | Phase::Returned => return 0,
         }
         // So that the rules of programs are known here.
-        let _main = p.main;
+        p.rules();
         let Some(flat) = proc_in(self.code.as_slice(), self.calls.top().proc) else {
             return 0;
         };

@@ -125,7 +125,7 @@ fn count_words(machine: &Machine, whole: &Whole) -> u64
     ensures few { result ≤ 65536 }
 {
     // So that the rules of machines are known here, which bound the addresses.
-    let _control = &machine.control;
+    machine.rules();
     whole.code.words.len() as u64
 }
 

@@ -133,7 +133,7 @@ fn cycle_once(dump: &mut Dump, sim: &mut Sim, basis: &Basis<'_>, next: Option<u3
         → Goes step (λ t. Stands sim.new t × HasWritten dump.new.row t.written) s result }
 {
     let m = basis.m;
-    let _ = &m.buses;
+    m.rules();
     let pc = sim.pc();
     let coming = coming(&*sim, basis.code);
     let step = sim.cycle(m, basis.code, basis.units, next);

@@ -6,7 +6,7 @@ ghost use Rattle.tta_program.specs.Over.{StandsOver};
 ghost use Rattle.tta_stages.specs.Stages.{AreStages};
 ghost use Rattle.tta_stages.specs.Text.{kind_text, homes_in, told_text, stages_text};
 
-use crate::stages::{Stages, keep_rules};
+use crate::stages::Stages;
 use crate::starts::block_starts;
 use crate::text::lists::push_lists;
 use crate::text::named::Of;
@@ -96,7 +96,7 @@ pub fn tell_stages(
     ensures { IfOk result (λ v.
         v.items ≡ stages_text (stated unit_meaning units.now) m.now p.now stages.now) }
 {
-    keep_rules(m, p);
+    m.rules();
     let starts = block_starts(alloc, stages.planned.placed.as_slice())?;
     let mut out = Vec::new(alloc);
     push_told(&mut out, m, p, units, stages, starts.as_slice())?;

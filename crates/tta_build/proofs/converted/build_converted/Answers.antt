@@ -7,8 +7,8 @@ build-requires-clause-program g c = stands_over _ c.args.p.now _ c.in_ok-q.ensur
 
 pub returns-in-Ok-clause-built : goal.returns-in-Ok-clause-built
 returns-in-Ok-clause-built g c =
-    built_so _ c.args.m.now c.args.p.now _ c.keep_rules.ensures.program c.in_ok-q.ensures.converted _ c.in-Ok.ensures.built
+    built_so _ c.args.m.now c.args.p.now _ c.rules.ensures c.in_ok-q.ensures.converted _ c.in-Ok.ensures.built
 
 pub returns-clause-cause : goal.returns-clause-cause
 returns-clause-cause g c =
-    cause_so _ c.args.m.now c.args.p.now _ c.keep_rules.ensures.program c.in_ok-q.ensures.converted _ c.in-Err.ensures.cause
+    cause_so _ c.args.m.now c.args.p.now _ c.rules.ensures c.in_ok-q.ensures.converted _ c.in-Err.ensures.cause

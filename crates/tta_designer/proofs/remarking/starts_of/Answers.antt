@@ -8,4 +8,4 @@ block_starts-requires g c =
     let on = c.args.on.now in
     let U = stated (λ v. (goal.OpUnit-dyn g v).unit_meaning v.1) on.units.now in
     subst (λ (ps : List Placed). total_length ps < 2 ^ 32) (sym c.as_slice.ensures.value)
-    (few_cycles U on.m.now on.p.now on.stages.now c.keep_rules.ensures c.requires)
+    (few_cycles U on.m.now on.p.now on.stages.now c.rules.ensures c.requires)

@@ -7,4 +7,4 @@ loop-x-init c = detours_begin c.args.on.now.machine.now c.args.hub c.args.items.
 
 pub returns : goal.returns
 returns c h =
-    detours_done c.args.on.now.machine.now c.args.hub c.args.items.now c.loop-x.trails.items c.loop-x.x-index c.keeps_rules.ensures (slotted c.args.on.now.machine.now c.args.items.now c.requires) c.loop-x.invariant c.loop-x-test.false
+    detours_done c.args.on.now.machine.now c.args.hub c.args.items.now c.loop-x.trails.items c.loop-x.x-index c.rules.ensures (slotted c.args.on.now.machine.now c.args.items.now c.requires) c.loop-x.invariant c.loop-x-test.false

@@ -8,7 +8,7 @@ use Rattle.tta_rtl.proofs.bytes.code_bytes.Goals as goal
 pub bytes_before-before-requires : goal.bytes_before-before-requires
 bytes_before-before-requires c =
     let whole = c.args.whole.now in
-    let b = has_body c.args.on.now.m.now c.args.digest.now whole c.in_ok-image.image.items c.addresses-rules.ensures.rules c.told-digest c.in_ok-image.ensures in
+    let b = has_body c.args.on.now.m.now c.args.digest.now whole c.in_ok-image.image.items c.rules.ensures c.told-digest c.in_ok-image.ensures in
     let many : c.len.result ≡ length whole.init = c.len.ensures ∙ ap (λ (w : Whole). length w.init) c.whole.view_is in
     let few = b.few in
     omega (arith, many, few)
@@ -18,7 +18,7 @@ returns c =
     let m = c.args.on.now.m.now in
     let whole = c.args.whole.now in
     let items = c.in_ok-image.image.items in
-    let b = has_body m c.args.digest.now whole items c.addresses-rules.ensures.rules c.told-digest c.in_ok-image.ensures in
+    let b = has_body m c.args.digest.now whole items c.rules.ensures c.told-digest c.in_ok-image.ensures in
     let many : c.len.result ≡ length whole.init = c.len.ensures ∙ ap (λ (w : Whole). length w.init) c.whole.view_is in
     let after : c.bytes_after.result.now ≡ drop (bytes_before (length whole.init)) items =
     c.bytes_after.ensures ∙ ap (λ (l : List ℕ). drop c.bytes_before-before.result l) c.as_slice.ensures.value

@@ -10,7 +10,7 @@ use Rattle.tta_rtl.proofs.whole.push_circuit.Goals as goal
 pub invariant_of-on : goal.invariant_of-on
 invariant_of-on _ c = record {
   layout_is = c.in_ok-layout.ensures;
-  fits = layout_fits c.args.wanted.now.m.now c.in_ok-layout.layout c.addresses-rules.ensures.rules c.in_ok-layout.ensures;
+  fits = layout_fits c.args.wanted.now.m.now c.in_ok-layout.layout c.rules.ensures c.in_ok-layout.ensures;
 }
 
 pub invariant_of-core : goal.invariant_of-core

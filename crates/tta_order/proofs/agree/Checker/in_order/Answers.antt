@@ -15,7 +15,7 @@ tested c =
     let fits = c.in_ok-fits.ensures.agree c.if-not-fits.false in
     let by = c.in_ok-fits.ensures.end c.if-not-fits.false in
     record {
-      rules = c.keeps_rules.ensures;
+      rules = c.rules.ensures;
       list = c.requires.list;
       front = rw (sym c.as_slice-items.ensures, sym c.settled-front.ensures) (c.count_up.ensures c.if-not-count_up.false);
       limits = ap (λ (l : List (ℕ × ℕ)). list_all (λ r. is_place (KeptReg r.0 r.1)) l) (sym c.as_slice-live.ensures) ∙ sym c.in_limits.ensures ∙ c.if-not-in_limits.false;

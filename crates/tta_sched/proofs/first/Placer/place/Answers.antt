@@ -31,7 +31,7 @@ loop-x-preserved c =
       keeps = c.in_ok-place_item.ensures.keeps;
       order = order_step c.loop-x.placed _ adds.last c.args.b.now.items c.as_slice-x-items.result.now c.loop-x.x-index _ adds.longer c.as_slice-x-items.ensures adds.item (omega arith) c.loop-x.invariant.order;
       first = subst (Each (FitsFirst c.args.m.now)) (sym adds.longer) (each_push (FitsFirst c.args.m.now) c.loop-x.placed adds.last c.loop-x.invariant.first adds.first);
-      soon = end_grows c.args.m.now c.keeps_rules.ensures c.loop-x.placed _ _ c.loop-x.x-index adds c.loop-x.invariant.soon;
+      soon = end_grows c.args.m.now c.rules.ensures c.loop-x.placed _ _ c.loop-x.x-index adds c.loop-x.invariant.soon;
     }
 
 pub returns-clause-first : goal.returns-clause-first
@@ -45,4 +45,4 @@ pub returns-clause-respects : goal.returns-clause-respects
 returns-clause-respects c = first_fit_respects c.args.m.now c.args.b.now.items _ (returns-clause-first c)
 
 pub returns-clause-room : goal.returns-clause-room
-returns-clause-room c = first_fit_has_room c.args.m.now c.keeps_rules.ensures c.args.b.now.items _ c.requires.list (returns-clause-first c)
+returns-clause-room c = first_fit_has_room c.args.m.now c.rules.ensures c.args.b.now.items _ c.requires.list (returns-clause-first c)

@@ -7,4 +7,4 @@ pub block_starts-requires : goal.block_starts-requires
 block_starts-requires g c =
     let U = stated (λ v. (goal.OpUnit-dyn g v).unit_meaning v.1) c.args.units.now in
     subst (λ (ps : List Placed). total_length ps < 2 ^ 32) (sym c.as_slice.ensures.value)
-    (few_cycles U c.args.m.now c.args.p.now c.args.stages.now c.keep_rules.ensures.machine c.requires.stages)
+    (few_cycles U c.args.m.now c.args.p.now c.args.stages.now c.rules.ensures c.requires.stages)
