@@ -5,6 +5,7 @@ pub use Rattle.tta_arch.specs.Rules.{IsMachine, IsMachineName}
 pub use Rattle.tta_arch.specs.declared.parts.File.{File}
 pub use Rattle.tta_code.specs.Cycle.{Fault, Halted, Outcome, Pending, Result', Running, State, Waiting, acts, carry_out, effects_of, fault_of, lands, next_of, or_fault, or_wait, pending_after, read_source, start, takes_effect, waits}
 unfoldable pub use Rattle.tta_code.specs.Cycle.{next}
+pub use Rattle.tta_code.specs.Results.{due_at}
 pub use Rattle.tta_code.specs.declared.code.Code.{Code}
 pub use Rattle.tta_code.specs.declared.code.Instruction.{Instruction}
 pub use Rattle.tta_list.specs.Input.{left}
@@ -19,7 +20,6 @@ pub use Rattle.tta_print.specs.declared.reply.Reply.{Reply}
 pub use Rattle.tta_reading.specs.Lines.{Lexeme, Line, is_line_end, lexeme_of}
 pub use Rattle.tta_reading.specs.Words.{is_keyword, name_of, value_of}
 pub use Rattle.tta_sim.specs.Held.{Held, IsRunOf, Stands}
-pub use Rattle.tta_sim.specs.Results.{due_at}
 unfoldable pub use Rattle.tta_text.specs.Numbers.{digits_of, negative_of, number_of, value_below}
 pub use Rattle.tta_text.specs.Reading.{Reading}
 unfoldable pub use Rattle.tta_text.specs.Tokens.{mark_piece, negative_piece, number_piece, piece_at, tokens_from, tokens_of}

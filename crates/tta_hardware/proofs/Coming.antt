@@ -9,7 +9,7 @@ use Rattle.std.proofs.lemmas.List.Folds.{find-append}
 use Rattle.std.proofs.lemmas.List.Sums.{fold-append}
 use Rattle.tta_hardware.specs.Cited.{Units, UnitOp, Machine, Start, KeptPort, has_result, result_word, State, Result', later, latest, is_due, due_at, word_due, is_set, value}
 use Rattle.tta_code.specs.Cycle.{result_of}
-use Rattle.tta_sim.proofs.Showing.{latest-next}
+use Rattle.tta_code.proofs.Latest.{latest-next}
 use Rattle.tta_circuit.specs.Circuit.{Signal as OfSignal}
 use Rattle.tta_hardware.specs.Signals.{Signal as Named, Keeps, IsDue, Due, HasBegun, Port, Starts}
 use Rattle.tta_hardware.specs.Wires.{timed, begins, made, result_of as result_made, is_coming, coming, longest, never, nothing, is_load, loads, fresh}

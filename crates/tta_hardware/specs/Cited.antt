@@ -28,6 +28,7 @@ pub use Rattle.tta_code.specs.Cycle.{Fault, Halted, Outcome, Pending, Result', R
 unfoldable pub use Rattle.tta_code.specs.Cycle.{next}
 pub use Rattle.tta_code.specs.Legal.{IsLegalCode, ends_of, is_long}
 unfoldable pub use Rattle.tta_code.specs.Legal.{is_legal}
+pub use Rattle.tta_code.specs.Results.{due_at, is_due, latest, word_due}
 pub use Rattle.tta_code.specs.declared.code.Instruction.{Instruction}
 pub use Rattle.tta_code.specs.declared.code.Long.{Long}
 pub use Rattle.tta_code.specs.declared.code.Move.{Move}
@@ -40,4 +41,3 @@ pub use Rattle.tta_image.specs.Reading.{body_in, word_count}
 pub use Rattle.tta_image.specs.Sink.{bit_value}
 pub use Rattle.tta_list.specs.Input.{left}
 pub use Rattle.tta_ops.specs.Units.{Units}
-pub use Rattle.tta_sim.specs.Results.{due_at, is_due, latest, word_due}

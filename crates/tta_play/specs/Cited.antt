@@ -11,6 +11,7 @@ pub use Rattle.tta_asm.specs.Canonical.{imm_name, place_text}
 unfoldable pub use Rattle.tta_asm.specs.Canonical.{instruction_text}
 pub use Rattle.tta_code.specs.Cycle.{Outcome, Pending, Running, State, acts, carry_out, effect_of, effects_of, fault_of, lands, long_effects, next_of, or_fault, or_wait, pending_after, port, read_source, result_of, takes_effect, waits}
 unfoldable pub use Rattle.tta_code.specs.Cycle.{next}
+pub use Rattle.tta_code.specs.Results.{due_at}
 pub use Rattle.tta_code.specs.declared.code.Code.{Code}
 pub use Rattle.tta_code.specs.declared.code.Instruction.{Instruction}
 pub use Rattle.tta_code.specs.declared.code.Long.{Long}
@@ -26,6 +27,5 @@ pub use Rattle.tta_places.specs.Carried.{coming, slots_of}
 pub use Rattle.tta_profile.specs.Counts.{is_made}
 pub use Rattle.tta_profile.specs.Feed.{went_on}
 pub use Rattle.tta_sim.specs.Held.{GoesTo, Held, IsAnswer, IsRunOf, Stands, cycles_of, is_halted}
-pub use Rattle.tta_sim.specs.Results.{due_at}
-pub use Rattle.tta_sim.specs.declared.cycle_step.CycleStep.{CycleStep}
 pub use Rattle.tta_sim.specs.declared.cycle_step.CycleStep.TheVariants.{Ran}
+pub use Rattle.tta_sim.specs.declared.cycle_step.CycleStep.{CycleStep}

@@ -7,10 +7,10 @@ use Rattle.std.proofs.lemmas.Bool.{and_parts, ltb-true}
 use Rattle.std.proofs.lemmas.List.Elements.{filter_map-append}
 use Rattle.std.proofs.lemmas.List.Folds.{list_any-append}
 use Rattle.std.proofs.Math.Bool.{or-false}
-use Rattle.tta_sim.specs.Cited.{Template, GuardRef, Source, Machine, Imm, KeptReg, KeptImm, KeptRa, Effect, Reads, Brought, long_effect, passes, guard_word, is_active, moved, bring, is_register, is_port, has_unset_guard, has_unset, Move, Long, Instruction, Result', State, read_source, effect_of, effects_of, long_effects, reads_unset_register, reads_unset_port}
+use Rattle.tta_sim.specs.Cited.{Template, GuardRef, Source, Machine, Imm, KeptReg, KeptImm, KeptRa, Effect, Reads, Brought, long_effect, passes, guard_word, is_active, moved, bring, is_register, is_port, has_unset_guard, has_unset, Move, Long, Instruction, Result', State, read_source, effect_of, effects_of, long_effects, reads_unset_register, reads_unset_port, latest}
 use Rattle.tta_arch.specs.declared.ends.Source.TheVariants as source
 use Rattle.tta_sim.specs.Places.{HasWritten}
-use Rattle.tta_sim.specs.Results.{Results, AreResultsOf, shown_by, latest}
+use Rattle.tta_sim.specs.Results.{Results, AreResultsOf, shown_by}
 use Rattle.tta_sim.specs.Moves.{is_readable, is_askable, is_reachable, is_possible, is_possible_slot, reads_of, lacks_register, effects_in, arrivals_of, brought_of}
 
 -- ---- two ways to read

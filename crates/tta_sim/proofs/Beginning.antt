@@ -6,10 +6,10 @@ use Rattle.std.specs.List.{list_any, AllByRecursion}
 use Rattle.std.proofs.lemmas.Bool.{and_parts, ne_eqb}
 use Rattle.std.proofs.lemmas.List.{map-append, take_more}
 use Rattle.std.proofs.lemmas.List.Folds.{find-append}
-use Rattle.tta_sim.specs.Cited.{are_different, Result', StayBeside, Rings, shown_in, due_in, is_among, IsAdvanced}
+use Rattle.tta_sim.specs.Cited.{are_different, Result', StayBeside, Rings, shown_in, due_in, is_among, IsAdvanced, due_at, is_due, word_due}
 use Rattle.tta_sim.specs.declared.results.Part.{Part}
 use Rattle.tta_sim.specs.declared.dues.Due.{Due}
-use Rattle.tta_sim.specs.Results.{Results, AreThere, AreKept, results_at, due_by, due_at, is_due, word_due}
+use Rattle.tta_sim.specs.Results.{Results, AreThere, AreKept, results_at, due_by}
 use Rattle.tta_sim.specs.Dues.{started_at, IsFittingDue, CanAllBegin, CanBegin, HasBegun}
 use Rattle.tta_sim.specs.Ready.{Begin, KeepsOthers}
 use Rattle.tta_sim.proofs.Showing.{results_more}

@@ -4,9 +4,9 @@ use Rattle.std.specs.Prelude.{is_some, option_map, slice_get, if◌then◌else�
 use Rattle.std.specs.Option.{option_map_or}
 use Rattle.std.specs.List.{list_any, find, AllByRecursion}
 use Rattle.tta_list.proofs.Tests.{or_swap}
-use Rattle.tta_sim.specs.Cited.{Template, Machine, Imm, Kind, Start, Brought, has_result, lacks_operand, first_some, or_else, control_of, is_port, has_unset, Long, Instruction, State, first_fault, fault_of, clashes, reads_unset_register, reads_unset_port, effects_of}
+use Rattle.tta_sim.specs.Cited.{Template, Machine, Imm, Kind, Start, Brought, has_result, lacks_operand, first_some, or_else, control_of, is_port, has_unset, Long, Instruction, State, first_fault, fault_of, clashes, reads_unset_register, reads_unset_port, effects_of, is_due}
 use Rattle.tta_sim.specs.Places.{HasWritten}
-use Rattle.tta_sim.specs.Results.{Results, AreResultsOf, shown_by, is_due}
+use Rattle.tta_sim.specs.Results.{Results, AreResultsOf, shown_by}
 use Rattle.tta_sim.specs.Moves.{is_possible_slot, reads_of, effects_in, arrivals_of, brought_of}
 use Rattle.tta_sim.specs.Starts.{is_stopped, clashes_with, starts_of, fault_in, acting_in}
 use Rattle.tta_sim.proofs.Agreeing.{long_brought, lacks_all, ports_all}

@@ -6,9 +6,9 @@ use Rattle.std.proofs.lemmas.List.{length-replicate}
 use Rattle.std.proofs.lemmas.Option.{slice_get_within}
 use Rattle.tta_list.proofs.Lists.{list_all_one}
 use Rattle.tta_arch.specs.declared.parts.Unit.{Unit as OpUnit}
-use Rattle.tta_sim.specs.Cited.{UnitOp, Op, Ldw, Stw, Ldf, Stf, Out, Take, Set, Machine, IsMachine, is_unit, is_unit_op, fits_kind, op_at, StandsFor, Rings, shown_in, due_in, longest_of, Code, State, port}
+use Rattle.tta_sim.specs.Cited.{UnitOp, Op, Ldw, Stw, Ldf, Stf, Out, Take, Set, Machine, IsMachine, is_unit, is_unit_op, fits_kind, op_at, StandsFor, Rings, shown_in, due_in, longest_of, Code, State, port, latest, due_at}
 use Rattle.tta_sim.specs.declared.results.Part.{Part}
-use Rattle.tta_sim.specs.Results.{AreResultsOf, AreThere, AreKept, HasUnits, results_at, units_of, latest, due_at}
+use Rattle.tta_sim.specs.Results.{AreResultsOf, AreThere, AreKept, HasUnits, results_at, units_of}
 use Rattle.tta_sim.proofs.Agreeing.{port_is}
 use Rattle.tta_sim.specs.Ready.{KeepsOthers}
 use Rattle.tta_sim.specs.declared.cycle_step.CycleStep.{CycleStep}

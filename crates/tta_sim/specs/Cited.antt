@@ -18,6 +18,7 @@ pub use Rattle.tta_code.specs.Cycle.{Fault, Halted, Outcome, Result', State, Wai
 unfoldable pub use Rattle.tta_code.specs.Cycle.{next}
 pub use Rattle.tta_code.specs.Legal.{IsLegalCode, ends_of}
 unfoldable pub use Rattle.tta_code.specs.Legal.{is_legal}
+pub use Rattle.tta_code.specs.Results.{due_at, is_due, latest, word_due}
 pub use Rattle.tta_code.specs.declared.code.Code.{Code}
 pub use Rattle.tta_code.specs.declared.code.Instruction.{Instruction}
 pub use Rattle.tta_code.specs.declared.code.Long.{Long}

@@ -1,28 +1,11 @@
 -- The results of units: those that show, and those that are still to come.
-use Rattle.std.specs.Prelude.{◌≡◌, ℕ, ◌+◌, ◌<◌, ◌≤◌, ◌==◌, Bool, ◌&&◌, List, length, fold, Option, None, option_map, IfSome}
-use Rattle.std.specs.List.{find}
-use Rattle.tta_sim.specs.Cited.{Machine, op_at, Result', later, Rings, shown_in, due_in, longest_of}
+use Rattle.std.specs.Prelude.{◌≡◌, ℕ, ◌+◌, ◌<◌, ◌≤◌, List, length, Option, IfSome}
+use Rattle.tta_sim.specs.Cited.{Machine, op_at, Result', latest, due_at, word_due, Rings, shown_in, due_in, longest_of}
 use Rattle.tta_sim.specs.declared.results.Part.{Part}
-
--- the latest result of a unit that is due by now
-abbrev pub latest : (unit now : ℕ) → List Result' → Option Result'
-latest unit now started = fold (later unit now) None started
-
--- whether a result is this unit's and due in this very cycle
-abbrev pub is_due : (unit due : ℕ) → Result' → Bool
-is_due unit due r = r.unit == unit && r.due == due
-
--- the result of a unit that is due in this very cycle
-abbrev pub due_at : (unit due : ℕ) → List Result' → Option Result'
-due_at unit due started = find (is_due unit due) started
 
 -- the result of a unit that is due `latency` cycles from now
 abbrev pub due_after : (now unit latency value : ℕ) → Result'
 due_after now unit latency value = record { unit = unit; due = now + latency; value = value }
-
--- the word of a result, if there is one
-abbrev pub word_due : Option Result' → Option ℕ
-word_due o = option_map (λ r. r.value) o
 
 -- so many units of a region from one on
 pub record Results : Type 0 where
