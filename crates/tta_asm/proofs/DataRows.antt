@@ -13,7 +13,7 @@ use Rattle.tta_asm.specs.Parts.{parts_of, ops_of}
 use Rattle.tta_asm.specs.Resolving.{move_of, long_of}
 use Rattle.tta_asm.specs.Init.{datum_form, datum_of}
 use Rattle.tta_asm.specs.Assembly.{instruction_of, take_piece, assembled}
-use Rattle.tta_asm.specs.Canonical.{instruction_text, canonical}
+use Rattle.tta_disasm.specs.Canonical.{instruction_text, canonical}
 
 -- the machine of one bus with a data space of four words
 abbrev four_words : Machine

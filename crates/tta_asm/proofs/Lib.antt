@@ -9,7 +9,6 @@ pub mod MachineNames
 pub mod SlotWalks
 pub mod ListedOps
 pub mod TemplateNames
-pub mod SlotTexts
 pub mod ShownItems
 pub mod ShownScan
 pub mod ShownPieces

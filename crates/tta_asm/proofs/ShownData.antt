@@ -7,7 +7,7 @@ use Rattle.std.proofs.lemmas.List.{append_assoc, append-nil}
 use Rattle.tta_text.specs.declared.lexeme.Kind.{Kind}
 use Rattle.tta_asm.specs.Cited.{Name, Number, Mark, is_keyword, Units, GuardRef, Source, Dest, Machine, Move, Instruction, Datum, rises_from, fits}
 use Rattle.tta_arch.specs.declared.ends.Source.TheVariants as source
-use Rattle.tta_asm.specs.Canonical.{file_name, imm_name, unit_name, datum_text}
+use Rattle.tta_disasm.specs.Canonical.{file_name, imm_name, unit_name, datum_text}
 use Rattle.tta_asm.specs.Pieces.{Placed, Piece}
 use Rattle.tta_asm.specs.Init.{begins_datum, is_declaration, datum_form, datum_of, data_from, behind_data}
 use Rattle.tta_asm.proofs.ShownItems.{Item, Blank, Word, placed_at, behind}

@@ -5,7 +5,7 @@ use Rattle.std.proofs.lemmas.List.{append_assoc}
 use Rattle.tta_asm.specs.Cited.{Mark, is_mark, Units, GuardRef, Source, Dest, Machine, Move, Long}
 use Rattle.tta_arch.specs.declared.ends.Source.TheVariants as source
 use Rattle.tta_arch.specs.declared.ends.Dest.TheVariants as dest
-use Rattle.tta_asm.specs.Canonical.{file_name, imm_name, unit_name, template_name, op_name_at}
+use Rattle.tta_disasm.specs.Canonical.{file_name, imm_name, unit_name, template_name, op_name_at}
 use Rattle.tta_asm.specs.Pieces.{Piece}
 use Rattle.tta_asm.specs.Forms.{Constant, SourceForm, Value, Shown, Ra, DestForm, Operand, Trigger, GuardForm, MoveForm, SlotForm, LongForm}
 use Rattle.tta_asm.specs.Forms.{SourceForm as source_form_of}

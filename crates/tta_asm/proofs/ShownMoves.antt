@@ -6,7 +6,7 @@ use Rattle.std.proofs.lemmas.List.{append_assoc, append-nil}
 use Rattle.tta_asm.specs.Cited.{Name, Number, Mark, Units, GuardRef, Source, Dest, Machine, Move, Long, Instruction}
 use Rattle.tta_arch.specs.declared.ends.Source.TheVariants as source
 use Rattle.tta_arch.specs.declared.ends.Dest.TheVariants as dest
-use Rattle.tta_asm.specs.Canonical.{file_name, imm_name, unit_name, template_name, op_name_at, place_text, guard_text, source_text, dest_text, slot_text, slots_text, long_text, instruction_text}
+use Rattle.tta_disasm.specs.Canonical.{file_name, imm_name, unit_name, template_name, op_name_at, place_text, guard_text, source_text, dest_text, slot_text, slots_text, long_text, instruction_text}
 use Rattle.tta_asm.proofs.ShownItems.{Item, Blank, Word, items_text, items_text-append}
 use Rattle.tta_asm.proofs.ShownScan.{close_text}
 use Rattle.tta_asm.proofs.ShownPieces.{PieceText, pieces_text}

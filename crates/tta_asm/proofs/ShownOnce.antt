@@ -4,7 +4,7 @@ use Rattle.std.specs.Prelude.{Ok}
 use Rattle.tta_reading.proofs.Steps.{same_ok}
 use Rattle.tta_asm.specs.Cited.{Units, Machine, IsMachine, StandsOver, Whole, IsLegalWhole}
 use Rattle.tta_asm.specs.Assembly.{assembled}
-use Rattle.tta_asm.specs.Canonical.{canonical}
+use Rattle.tta_disasm.specs.Canonical.{canonical}
 use Rattle.tta_asm.proofs.ShownText.{canonical_assembled}
 use Rattle.tta_asm.proofs.AssembledLegal.{assembled_legal}
 

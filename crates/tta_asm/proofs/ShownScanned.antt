@@ -5,7 +5,7 @@ use Rattle.std.proofs.lemmas.List.{append_assoc, append-nil}
 use Rattle.tta_asm.specs.Cited.{Name, Mark, is_word_byte, first_is, is_name, Units, GuardRef, Source, Dest, Machine, Move, Long}
 use Rattle.tta_arch.specs.declared.ends.Source.TheVariants as source
 use Rattle.tta_arch.specs.declared.ends.Dest.TheVariants as dest
-use Rattle.tta_asm.specs.Canonical.{file_name, imm_name, unit_name, template_name, op_name_at}
+use Rattle.tta_disasm.specs.Canonical.{file_name, imm_name, unit_name, template_name, op_name_at}
 use Rattle.tta_asm.proofs.ShownItems.{Item, Blank, Word, items_text, items_text-append}
 use Rattle.tta_asm.proofs.ShownScan.{Stays, close_text}
 use Rattle.tta_asm.proofs.ShownPieces.{AreScanned, PieceText, pieces_text, ArePieces}

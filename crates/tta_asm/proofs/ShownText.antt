@@ -10,7 +10,7 @@ use Rattle.tta_code.proofs.LegalParts.{LegalParts, legal_parts}
 use Rattle.tta_asm.specs.Forms.{SlotForm}
 use Rattle.tta_asm.specs.Labels.{label_of, is_semicolon, instructions_in, labels_from, labels_of}
 use Rattle.tta_asm.specs.Assembly.{Draft, instruction_of, begun_label, take_piece, take_pieces, assembled}
-use Rattle.tta_asm.specs.Canonical.{datum_text, canonical}
+use Rattle.tta_disasm.specs.Canonical.{datum_text, canonical}
 use Rattle.tta_asm.proofs.Readable.{IsReadable, readable}
 use Rattle.tta_asm.proofs.ShownItems.{behind}
 use Rattle.tta_asm.proofs.ShownScan.{close_of, line_behind}

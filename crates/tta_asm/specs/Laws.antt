@@ -2,7 +2,7 @@
 use Rattle.std.specs.Prelude.{◌≡◌, ℕ, List, Ok}
 use Rattle.tta_asm.specs.Cited.{Units, Machine, IsMachine, StandsOver, Whole, IsLegalWhole}
 use Rattle.tta_asm.specs.Assembly.{assembled}
-use Rattle.tta_asm.specs.Canonical.{canonical}
+use Rattle.tta_disasm.specs.Canonical.{canonical}
 
 -- a legal whole is read back from its canonical text
 abbrev pub ReadsBack : Type 0

@@ -7,13 +7,11 @@ pub mod Pieces
 pub mod Labels
 pub mod Parts
 pub mod Refusals
-pub mod Canonical
 pub mod Seen
 pub mod Calls
 pub mod WordsRead
 pub mod LabelsSeen
 pub mod Table
 pub mod Drafts
-pub mod Printing
 pub mod Init
 pub mod Laws

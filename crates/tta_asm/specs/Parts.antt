@@ -1,6 +1,6 @@
 -- What the names of a machine's parts stand for.
-use Rattle.std.specs.Prelude.{ℕ, ◌+◌, List, [], ◌∷◌, ◌++◌, map, slice_index_or, codes}
-use Rattle.tta_asm.specs.Cited.{Declared, Units, Op, Ldw, Stw, Ldf, Stf, Out, Take, Set, Machine}
+use Rattle.std.specs.Prelude.{ℕ, ◌+◌, List, [], ◌∷◌, ◌++◌, map}
+use Rattle.tta_asm.specs.Cited.{Declared, Units, Machine, op_name}
 use Rattle.tta_arch.specs.declared.parts.Unit.{Unit as OpUnit}
 use Rattle.tta_asm.specs.declared.parts.Part.{Part}
 use Rattle.tta_asm.specs.declared.parts.Part.TheVariants.{File, Imm, Template}
@@ -17,16 +17,6 @@ parts_of m =
     by_place File 0 (map (λ f. f.name) m.files)
     ++ (by_place Imm 0 (map (λ i. i.name) m.imms)
     ++ (by_place part.Unit 0 (map (λ u. u.name) m.units) ++ by_place Template 0 (map (λ t. t.name) m.templates)))
-
--- what an operation is called
-abbrev pub op_name : Units → Op → List ℕ
-op_name u Ldw = codes "ldw"
-op_name u Stw = codes "stw"
-op_name u Ldf = codes "ldf"
-op_name u Stf = codes "stf"
-op_name u Out = codes "out"
-op_name u Take = codes "in"
-op_name u (Set id) = slice_index_or u.names id.0 []
 
 -- the operations of a unit by their names, each with its place in the unit
 unfoldable pub ops_of : Units → OpUnit → Declared ℕ

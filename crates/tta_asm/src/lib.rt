@@ -1,5 +1,5 @@
-//! Parallel assembly: reading it into code with its data, and showing both as their one canonical
-//! text.
+//! Parallel assembly: reading it into code with its data. The one canonical text of both stands in
+//! tta_disasm, and is handed on from here.
 //!
 //! A text is a list of labels and instructions, and before them of the data that the code begins
 //! with. An instruction has one slot for each bus, a move or nothing, and at most one long immediate
@@ -13,12 +13,10 @@ mod init;
 mod instruction;
 mod labels;
 mod laws;
-mod named;
 mod naming;
 mod parts;
 mod pieces;
 mod places;
-mod print;
 mod refusal;
 mod resolving;
 mod syntax;
@@ -27,6 +25,5 @@ mod target;
 
 pub use assembling::assemble;
 pub use laws::{assembles_legal, reads_back};
-pub use named::{file_name, imm_name, op_name, template_name, unit_name};
-pub use print::{disassemble, push_instruction, push_move, push_place};
 pub use refusal::{AsmError, AsmRefusal};
+pub use tta_disasm::disassemble;

@@ -5,11 +5,11 @@ ghost use Rattle.tta_ops.specs.Set.{stated};
 ghost use Rattle.tta_asm.specs.Parts.{by_place, parts_of, ops_of};
 ghost use Rattle.tta_asm.specs.Table.{NameTheSame, named_at, op_named, part_at};
 
-use crate::named::op_name;
 use crate::parts::Part;
 use crate::places::{files_of, imms_of, templates_of, units_of};
 use std::alloc::{AllocError, Global};
 use tta_arch::{File, ImmUnit, Machine, Template, Unit};
+use tta_disasm::op_name;
 use tta_list::Items;
 use tta_ops::UnitSet;
 use tta_reading::Names;

@@ -15,8 +15,8 @@ pub use Rattle.tta_arch.specs.declared.parts.Op.TheVariants.{Ldf, Ldw, Out, Set,
 pub use Rattle.tta_arch.specs.declared.parts.Socket.{Socket}
 pub use Rattle.tta_arch.specs.declared.parts.Template.{Template}
 pub use Rattle.tta_arch.specs.declared.parts.UnitOp.{UnitOp}
-pub use Rattle.tta_asm.specs.Canonical.{imm_name, place_text, template_name}
-pub use Rattle.tta_asm.specs.Parts.{op_name}
+pub use Rattle.tta_disasm.specs.Canonical.{imm_name, place_text, template_name}
+pub use Rattle.tta_disasm.specs.Canonical.{op_name}
 pub use Rattle.tta_code.specs.Legal.{taken}
 unfoldable pub use Rattle.tta_code.specs.Legal.{is_legal}
 pub use Rattle.tta_code.specs.declared.code.Code.{Code}

@@ -1,7 +1,7 @@
 -- What the picture of code writes into its cells.
 use Rattle.std.specs.Prelude.{List, ℕ, ◌++◌, codes, decimal}
 use Rattle.tta_draw.specs.Cited.{Units, Machine, Move, Long, template_name}
-use Rattle.tta_asm.specs.Canonical.{move_text}
+use Rattle.tta_disasm.specs.Canonical.{move_text}
 
 -- a move, as assembly has it
 unfoldable pub written_move : Units → Machine → Move → List ℕ

@@ -9,7 +9,7 @@ ghost use Rattle.tta_draw.specs.MachineWidths.{after_templates, after_units};
 
 use crate::widths::text_width;
 use tta_arch::{Bus, File, ImmUnit, Machine, Template, Unit, UnitOp};
-use tta_asm::{imm_name, op_name};
+use tta_disasm::{imm_name, op_name};
 use tta_list::entry_at;
 use tta_ops::UnitSet;
 

@@ -15,7 +15,7 @@ use crate::ports::{push_port, push_port_if, push_stem};
 use crate::svg::{end_label, push_box, push_count, push_label, push_number, start_label};
 use std::alloc::AllocError;
 use tta_arch::{File, ImmUnit, Machine, Template, Unit, UnitOp};
-use tta_asm::{imm_name, op_name, push_place};
+use tta_disasm::{imm_name, op_name, push_place};
 use tta_ops::UnitSet;
 
 /// Puts the box of a part, so wide and for so many lines, with its name.

@@ -7,8 +7,8 @@ ghost use Rattle.tta_draw.specs.Written.{written_move, written_long};
 use crate::svg::push_number;
 use std::alloc::AllocError;
 use tta_arch::Machine;
-use tta_asm::{push_move, template_name};
 use tta_code::{Long, Move};
+use tta_disasm::{push_move, template_name};
 use tta_ops::UnitSet;
 
 /// Puts a move, as assembly has it.

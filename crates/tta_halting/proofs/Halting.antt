@@ -13,7 +13,7 @@ use Rattle.tta_reading.proofs.Steps.{same_ok, then-ok, some-ok}
 use Rattle.tta_ops.specs.Arithmetic.{arith as arithmetic}
 use Rattle.tta_program.specs.declared.step.Step.TheVariants as step
 use Rattle.tta_tac.proofs.Described.{program_said}
-use Rattle.tta_printed.proofs.Said.{numbered_from, numbered_append}
+use Rattle.tta_roundtrip.proofs.Said.{numbered_from, numbered_append}
 use Rattle.tta_halting.specs.Statement.{SamplesHalt, bound_of}
 use Rattle.tta_halting.proofs.Drawn.{Drawn, Two, One, Shown, Fixed, Loaded, Stored, Chosen, Skipped, IsDrawn, IsSample, sample_is}
 use Rattle.tta_halting.proofs.SampleForms.{forms_of, before_forms, after_forms, procedure_forms, sample_forms, sample_said}

@@ -6,7 +6,7 @@ use Rattle.std.specs.List.{list_any}
 use Rattle.std.specs.Str.{bytes_eq}
 use Rattle.std.proofs.lemmas.Bool.{or_parts}
 use Rattle.tta_halting.specs.Cited.{named_in, LabelForm, has_twice, Said, label_in, labels_said, label_names}
-use Rattle.tta_printed.proofs.Names.{bytes_apart}
+use Rattle.tta_roundtrip.proofs.Names.{bytes_apart}
 use Rattle.tta_list.proofs.Lists.{same_bytes as bytes_self}
 
 -- how many steps stand among lines

@@ -9,7 +9,7 @@ use Rattle.tta_halting.specs.Cited.{Declared, named_in, Units, Var, Word, Lt, Lt
 use Rattle.tta_reading.specs.Steps.{◌>>=◌}
 use Rattle.tta_reading.proofs.Steps.{same_ok, then-ok, some-ok, at_line-ok}
 use Rattle.tta_program.specs.declared.step.Step.TheVariants as step
-use Rattle.tta_printed.proofs.Said.{numbered_from}
+use Rattle.tta_roundtrip.proofs.Said.{numbered_from}
 use Rattle.tta_halting.proofs.Drawn.{Drawn, Two, One, Shown, Fixed, Loaded, Stored, Chosen, Skipped, IsDrawn}
 use Rattle.tta_halting.proofs.SampleForms.{forms_of}
 use Rattle.tta_halting.proofs.Shape.{IsMild, AreMild}

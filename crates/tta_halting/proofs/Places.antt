@@ -4,7 +4,7 @@ use Rattle.std.specs.Prelude.{Some, codes}
 use Rattle.std.specs.List.{flat_map}
 use Rattle.std.proofs.lemmas.List.{append_assoc}
 use Rattle.tta_halting.specs.Cited.{named_in, Lt, Form, Named, Constant, LabelForm, CopyForm, ApplyForm, IfForm, has_twice, Draft, Units, Said, labels_said, label_names, var_name, label_name}
-use Rattle.tta_printed.proofs.Said.{numbered_from, numbered_append}
+use Rattle.tta_roundtrip.proofs.Said.{numbered_from, numbered_append}
 use Rattle.tta_halting.proofs.Drawn.{Drawn, Two, One, Shown, Fixed, Loaded, Stored, Chosen, Skipped}
 use Rattle.tta_halting.proofs.SampleForms.{forms_of, before_forms}
 use Rattle.tta_halting.proofs.Labels.{steps_in, steps_of_both, label_there}

@@ -5,10 +5,10 @@ use Rattle.std.specs.Fmt.{digits}
 use Rattle.std.specs.List.{flat_map, AllByRecursion}
 use Rattle.tta_list.proofs.Lists.{all_append}
 use Rattle.tta_halting.specs.Cited.{number_of, digits_of, value_below, lines_of, is_reserved, Var, Word, Ne, Lt, Ltu, Form, Named, Constant, ProcForm, LabelForm, CopyForm, ApplyForm, LoadForm, StoreForm, PutForm, IfForm, WhenForm, HaltForm, EndForm, form_of, proc_form, if_form, put_form, named_form, assign_form, said_from, word, number, var_name, label_name}
-use Rattle.tta_printed.proofs.ScannedLines.{CanBePrinted, lines_of_printed}
-use Rattle.tta_printed.proofs.Forms.{assign_read, copy_read, load_read, two_read, store_read, put_read, if_read, when_read, label_read}
-use Rattle.tta_printed.proofs.Said.{AreRead, read_append, numbered_from, said_read}
-use Rattle.tta_printed.proofs.Reading.{var_named, label_named}
+use Rattle.tta_roundtrip.proofs.ScannedLines.{CanBePrinted, lines_of_printed}
+use Rattle.tta_roundtrip.proofs.Forms.{assign_read, copy_read, load_read, two_read, store_read, put_read, if_read, when_read, label_read}
+use Rattle.tta_roundtrip.proofs.Said.{AreRead, read_append, numbered_from, said_read}
+use Rattle.tta_roundtrip.proofs.Reading.{var_named, label_named}
 use Rattle.tta_halting.proofs.Drawn.{Drawn, Two, One, Shown, Fixed, Loaded, Stored, Chosen, Skipped, IsDrawn, printed_of, before_lines, after_lines, sample_lines, IsSample}
 
 -- ---- forms

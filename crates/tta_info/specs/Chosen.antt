@@ -4,7 +4,7 @@ use Rattle.std.specs.Option.{option_map_or}
 use Rattle.std.specs.List.{flat_map, enumerate_from}
 use Rattle.tta_arch.specs.declared.parts.Unit.{Unit as OpUnit}
 use Rattle.tta_arch.specs.Machine.{Machine}
-use Rattle.tta_asm.specs.Canonical.{file_name, place_text}
+use Rattle.tta_disasm.specs.Canonical.{file_name, place_text}
 use Rattle.tta_connect.specs.Coverage.{failed_rule, guard_register, homes_of, hub_of, is_usable_at}
 use Rattle.tta_info.specs.Lines.{count_text, named_if, start_text}
 

@@ -5,7 +5,7 @@ use Rattle.tta_arch.specs.declared.parts.File.{File}
 use Rattle.tta_arch.specs.declared.parts.ImmUnit.{ImmUnit}
 use Rattle.tta_arch.specs.declared.parts.Template.{Template}
 use Rattle.tta_arch.specs.Machine.{Machine}
-use Rattle.tta_asm.specs.Canonical.{imm_name, place_text}
+use Rattle.tta_disasm.specs.Canonical.{imm_name, place_text}
 use Rattle.tta_info.specs.Lines.{count_text, start_text}
 
 -- a file: how many registers it has, of how many bits, and how many moves of a cycle read and write it

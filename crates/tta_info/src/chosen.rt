@@ -11,8 +11,8 @@ ghost use Rattle.tta_info.specs.Chosen.{usable_names, usable_text, choice_text, 
 use crate::lines::{end_line, push_count, push_named_if, start_line};
 use std::alloc::AllocError;
 use tta_arch::{Machine, Unit};
-use tta_asm::{file_name, push_place};
 use tta_connect::Choice;
+use tta_disasm::{file_name, push_place};
 
 /// What a rule of coverage asks.
 #[tactic(auto, unfolding(crate::specs::Chosen::rule_words))]

@@ -7,7 +7,7 @@ ghost use Rattle.tta_info.specs.Parts.{template_text, templates_text};
 use crate::lines::{end_line, push_count, push_number, start_line};
 use std::alloc::AllocError;
 use tta_arch::{File, ImmUnit, Machine, Template};
-use tta_asm::{imm_name, push_place};
+use tta_disasm::{imm_name, push_place};
 
 /// Puts a file: how many registers it has, of how many bits, and how many moves of a cycle read and
 /// write it.

@@ -1,13 +1,13 @@
 //! The names of signals in the text.
 
 ghost use Rattle.std.specs.Prelude.{◌≡◌, ◌++◌, OnOk};
-ghost use Rattle.tta_asm.specs.Canonical.{unit_name};
+ghost use Rattle.tta_disasm.specs.Canonical.{unit_name};
 ghost use Rattle.tta_names.specs.Names.{bus_name, counted, place_name};
 ghost use Rattle.tta_arch.specs.Effects.{KeptReg, KeptImm};
 
 use std::alloc::AllocError;
 use tta_arch::Machine;
-use tta_asm::{file_name, imm_name, unit_name};
+use tta_disasm::{file_name, imm_name, unit_name};
 use tta_verilog::{push_number, push_text};
 
 /// The name of a bus, and no bytes where the machine has no such bus.

@@ -6,7 +6,7 @@ ghost use Rattle.tta_stages.specs.Words.{count_text, home_text, pair_text};
 use itoa::Buffer;
 use std::alloc::AllocError;
 use tta_arch::Machine;
-use tta_asm::{file_name, push_place};
+use tta_disasm::{file_name, push_place};
 
 /// Puts a number, and what it counts before it.
 pub fn push_count(out: &mut Vec<u8>, what: &[u8], n: u128) -> Result<(), AllocError>

@@ -7,8 +7,8 @@ pub use Rattle.tta_arch.specs.declared.parts.File.{File}
 pub use Rattle.tta_arch.specs.declared.parts.ImmUnit.{ImmUnit}
 pub use Rattle.tta_arch.specs.declared.parts.Socket.{Socket}
 pub use Rattle.tta_arch.specs.declared.parts.Template.{Template}
-pub use Rattle.tta_asm.specs.Canonical.{imm_name, place_text}
-unfoldable pub use Rattle.tta_asm.specs.Canonical.{instruction_text}
+pub use Rattle.tta_disasm.specs.Canonical.{imm_name, place_text}
+unfoldable pub use Rattle.tta_disasm.specs.Canonical.{instruction_text}
 pub use Rattle.tta_code.specs.Cycle.{Outcome, Pending, Running, State, acts, carry_out, effect_of, effects_of, fault_of, lands, long_effects, next_of, or_fault, or_wait, pending_after, port, read_source, result_of, takes_effect, waits}
 unfoldable pub use Rattle.tta_code.specs.Cycle.{next}
 pub use Rattle.tta_code.specs.Results.{due_at}

@@ -1,13 +1,20 @@
 -- One word, one line and one procedure more.
 use Rattle.std.proofs.Common.{◌≡◌, ◌≤◌, ℕ, zero, suc, ◌+◌, ◌<◌, ◌^◌, Bool, List, [], ◌∷◌, ◌++◌, length, take, get_or, refl, sym, ap, ◌∙◌, subst, arith, append_assoc, append-nil}
 use Rattle.std.specs.Prelude.{if◌then◌else◌}
-use Rattle.std.specs.List.{flat_map, AllByRecursion}
+use Rattle.std.specs.List.{flat_map, sum_by, AllByRecursion}
 use Rattle.std.proofs.Math.Seq.{take-suc}
+use Rattle.std.proofs.lemmas.List.Sums.{sum_by-cons}
 use Rattle.tta_printed.specs.Cited.{Lexeme, Line, Units, Src, Step, Proc, DataLine, Program, IsProgram, is_target}
 use Rattle.tta_list.proofs.Lists.{all_weaker}
-use Rattle.tta_printed.proofs.Reading.{steps_short}
 use Rattle.tta_printed.specs.Printed.{Printed, Words, Label, label_name, word, var_name, src_word, src_words, words, var_names, spaced, line_text, step_lines, label_before, step_line, proc_lines, proc_line, data_lines, data_line}
 use Rattle.tta_printed.specs.Printing.{spaced_after, proc_text}
+
+-- no procedure of few steps has many
+steps_short : (qs : List Proc) (n : ℕ) → sum_by (λ q. length q.steps) qs ≤ n → AllByRecursion (λ q. length q.steps ≤ n) qs
+steps_short [] n le = tt
+steps_short (q ∷ qs) n le =
+    let sum = sum_by-cons (λ (x : Proc). length x.steps) q qs in
+    (omega arith, steps_short qs n (omega arith))
 
 -- ---- words
 

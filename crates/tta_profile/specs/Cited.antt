@@ -7,7 +7,7 @@ pub use Rattle.tta_arch.specs.declared.ends.Dest.{Dest}
 pub use Rattle.tta_arch.specs.declared.parts.Bus.{Bus}
 pub use Rattle.tta_arch.specs.declared.parts.Op.{Op}
 pub use Rattle.tta_arch.specs.declared.parts.Op.TheVariants.{Ldf, Ldw, Out, Set, Stf, Stw, Take}
-unfoldable pub use Rattle.tta_asm.specs.Canonical.{instruction_text}
+unfoldable pub use Rattle.tta_disasm.specs.Canonical.{instruction_text}
 pub use Rattle.tta_code.specs.Cycle.{Running, State, carry_out, effect_of, next_of, read_source}
 unfoldable pub use Rattle.tta_code.specs.Cycle.{next}
 pub use Rattle.tta_code.specs.Legal.{IsLegalCode}

@@ -15,8 +15,8 @@ use crate::sums::cycles_sum;
 use crate::uses::{Profiled, push_number, push_share, push_uses};
 use std::alloc::{AllocError, Global};
 use tta_arch::Machine;
-use tta_asm::push_instruction;
 use tta_code::{Code, Instruction, Move};
+use tta_disasm::push_instruction;
 use tta_ops::UnitSet;
 
 /// The name of a bus, and no bytes where the machine has no such bus.

@@ -9,7 +9,7 @@ ghost use Rattle.tta_prompt.specs.Texts.{file_lines, files_lines};
 use itoa::Buffer;
 use std::alloc::AllocError;
 use tta_arch::File;
-use tta_asm::push_place;
+use tta_disasm::push_place;
 use tta_sim::Sim;
 
 /// Puts a number, in decimal.

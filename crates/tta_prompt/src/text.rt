@@ -4,7 +4,7 @@ ghost use Rattle.std.specs.Prelude.{◌≡◌, ◌++◌, IfOk, option_map, slice
 ghost use Rattle.std.specs.Option.{option_copied};
 ghost use Rattle.tta_ops.specs.Set.{stated};
 ghost use Rattle.tta_code.specs.Cycle.{State};
-ghost use Rattle.tta_asm.specs.Canonical.{instruction_text};
+ghost use Rattle.tta_disasm.specs.Canonical.{instruction_text};
 ghost use Rattle.tta_sim.specs.Held.{Stands, IsRunOf};
 ghost use Rattle.tta_prompt.specs.Texts.{files_lines, help, own_text, word_line};
 
@@ -13,9 +13,9 @@ use crate::own::Own;
 use crate::registers::{push_files, push_number};
 use std::alloc::{AllocError, Global};
 use tta_arch::Machine;
-use tta_asm::push_instruction;
 use tta_code::{Code, Instruction};
 use tta_debug::Basis;
+use tta_disasm::push_instruction;
 use tta_ops::UnitSet;
 use tta_sim::Sim;
 

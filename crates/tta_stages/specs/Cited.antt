@@ -12,9 +12,9 @@ pub use Rattle.tta_arch.specs.declared.ends.Dest.{Dest}
 pub use Rattle.tta_arch.specs.declared.ends.GuardRef.{GuardRef}
 pub use Rattle.tta_arch.specs.declared.ends.Source.TheVariants.{Value}
 pub use Rattle.tta_arch.specs.declared.parts.Op.TheVariants.{Set}
-pub use Rattle.tta_asm.specs.Canonical.{file_name, guard_text, imm_name, move_text, place_text}
-unfoldable pub use Rattle.tta_asm.specs.Canonical.{instruction_text}
-pub use Rattle.tta_asm.specs.Parts.{op_name}
+pub use Rattle.tta_disasm.specs.Canonical.{file_name, guard_text, imm_name, move_text, place_text}
+unfoldable pub use Rattle.tta_disasm.specs.Canonical.{instruction_text}
+pub use Rattle.tta_disasm.specs.Canonical.{op_name}
 pub use Rattle.tta_build.specs.Parts.{IsCodeFor}
 pub use Rattle.tta_build.specs.Value.{IsCompiled}
 pub use Rattle.tta_build.specs.declared.trail.Order.{Order}

@@ -4,7 +4,7 @@ pub use Rattle.tta_arch.specs.Effects.{Brought, Calls, Halts, Jumps, Kind, Start
 pub use Rattle.tta_arch.specs.Machine.{Machine}
 pub use Rattle.tta_arch.specs.declared.parts.Op.{Op}
 pub use Rattle.tta_arch.specs.declared.parts.Op.TheVariants.{Out}
-unfoldable pub use Rattle.tta_asm.specs.Canonical.{canonical}
+unfoldable pub use Rattle.tta_disasm.specs.Canonical.{canonical}
 pub use Rattle.tta_build.specs.Converted.{HasConvertedCause, IsBuiltConverted}
 pub use Rattle.tta_build.specs.Statement.{HasCause, IsBuilt}
 pub use Rattle.tta_check.specs.Verdict.{IsSafe, IsUnsafe, NeverFaults}

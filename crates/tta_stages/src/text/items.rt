@@ -2,15 +2,15 @@
 
 ghost use Rattle.std.specs.Prelude.{◌≡◌, ◌++◌, OnOk};
 ghost use Rattle.tta_ops.specs.Set.{stated};
-ghost use Rattle.tta_asm.specs.Canonical.{guard_text};
+ghost use Rattle.tta_disasm.specs.Canonical.{guard_text};
 ghost use Rattle.tta_stages.specs.ListText.{address_text, move_item_text, value_text};
 ghost use Rattle.tta_stages.specs.ListText.{long_item_text, item_text, item_line, items_text};
 
 use crate::text::words::push_count;
 use std::alloc::AllocError;
 use tta_arch::{Dest, GuardRef, Machine, Source};
-use tta_asm::{file_name, imm_name, push_move, push_place};
 use tta_code::Move;
+use tta_disasm::{file_name, imm_name, push_move, push_place};
 use tta_moves::{Item, ItemSource, LongValue};
 use tta_ops::UnitSet;
 

@@ -10,8 +10,8 @@ use crate::text::register::push_range;
 use crate::text::words::push_count;
 use std::alloc::AllocError;
 use tta_arch::Machine;
-use tta_asm::push_instruction;
 use tta_code::Instruction;
+use tta_disasm::push_instruction;
 use tta_moves::Placed;
 use tta_ops::UnitSet;
 

@@ -11,7 +11,7 @@ ghost use Rattle.tta_stages.specs.StepText.{step_text, steps_text, exit_text};
 use crate::text::words::{push_block, push_count, push_kept, push_operand};
 use std::alloc::AllocError;
 use tta_arch::{Machine, Op};
-use tta_asm::op_name;
+use tta_disasm::op_name;
 use tta_ops::{OpId, UnitSet};
 use tta_program::Rel;
 use tta_rcode::{Exit, Place, RSrc, RStep};

@@ -8,7 +8,7 @@ ghost use Rattle.tta_stages.specs.Words.{home_text, kept_text, source_text, oper
 use itoa::Buffer;
 use std::alloc::AllocError;
 use tta_arch::Machine;
-use tta_asm::{file_name, push_place};
+use tta_disasm::{file_name, push_place};
 use tta_rcode::{Place, RSrc};
 
 /// Puts a number at the end, in decimal.

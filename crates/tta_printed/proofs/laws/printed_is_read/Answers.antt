@@ -1,6 +1,0 @@
-use Rattle.tta_printed.proofs.Whole.{printed_is_read_holds}
-use Rattle.tta_printed.proofs.Back.{texts_read_back, conversions_read_back}
-use Rattle.tta_printed.proofs.laws.printed_is_read.Goals as goal
-
-pub returns : goal.returns
-returns c = record { texts = texts_read_back; converted = conversions_read_back; readable = printed_is_read_holds }
