@@ -5,15 +5,16 @@ ghost use Rattle.tta_arch.specs.Rules.{same_op};
 ghost use Rattle.tta_arch.specs.declared.parts.Op.TheVariants.{Out, Take};
 ghost use Rattle.tta_circuit.specs.Circuit as c;
 ghost use Rattle.tta_cost.specs.Depths.{cost_of};
-ghost use Rattle.tta_cost.specs.Offers.{places_of};
+ghost use Rattle.tta_offers.specs.Offers.{places_of};
 ghost use Rattle.tta_hardware.specs.Signals as s;
 ghost use Rattle.tta_hardware.specs.Wires as w;
 
-use crate::offers::{Given, OpAt, some_start, word_where};
+use crate::offers::{Given, some_start, word_where};
 use crate::on::On;
 use crate::reach::{arrivals, reached};
 use tta_arch::Dest;
 use tta_measure::{Cost, SUM};
+use tta_offers::OpAt;
 
 /// Where units offer the output, and the input.
 #[derive(Clone, Copy)]

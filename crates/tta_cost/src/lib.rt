@@ -17,7 +17,6 @@ mod rows;
 mod spaces;
 mod starts;
 mod text;
-mod units;
 mod wires;
 
 pub use text::{depths_are, tell_code, tell_machine};

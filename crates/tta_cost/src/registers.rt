@@ -18,9 +18,9 @@ use crate::on::On;
 use crate::reach::{arrivals, reached};
 use crate::results::{begins, coming, is_coming, made, port_line};
 use crate::starts::trigger_line;
-use crate::units::op_at;
 use tta_arch::{Dest, Template};
 use tta_measure::{Cost, READ, SUM};
+use tta_offers::op_at;
 
 /// Whether the instruction has a template.
 #[tactic(auto, using(crate::proofs::Depths::known))]

@@ -12,9 +12,9 @@ ghost use Rattle.tta_hardware.specs.Wires as w;
 
 use crate::on::On;
 use crate::starts::{operand_line, start_line, trigger_line};
-use crate::units::{longest, ops_at};
 use tta_arch::{Op, UnitOp};
 use tta_measure::Cost;
+use tta_offers::{longest, ops_at};
 
 /// Whether an operation loads a word of a space.
 pub fn is_load(op: Op) -> bool

@@ -22,9 +22,9 @@ use crate::on::On;
 use crate::parts::{Part, Parts};
 use crate::registers as regs;
 use crate::starts::operand_line;
-use crate::units::longest;
 use tta_arch::{File, ImmUnit, Unit};
 use tta_measure::Cost;
+use tta_offers::longest;
 
 /// A machine with whether a clock carries the instruction out, where that is read.
 #[derive(Clone, Copy)]

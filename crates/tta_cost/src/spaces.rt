@@ -5,7 +5,8 @@ ghost use Rattle.tta_arch.specs.Rules.{same_op};
 ghost use Rattle.tta_arch.specs.declared.parts.Op.TheVariants.{Out, Stf, Stw, Take};
 ghost use Rattle.tta_circuit.specs.Circuit as c;
 ghost use Rattle.tta_cost.specs.Depths.{cost_of};
-ghost use Rattle.tta_cost.specs.Offers.{places_of, word_of};
+ghost use Rattle.tta_cost.specs.Offers.{word_of};
+ghost use Rattle.tta_offers.specs.Offers.{places_of};
 ghost use Rattle.tta_cost.specs.Tally.{cost_of_port, no_parts, parts_of, put, registers_put, wires_put};
 ghost use Rattle.tta_cost.specs.declared.parts.Part.TheVariants as part;
 ghost use Rattle.tta_hardware.specs.Hardware as h;
@@ -13,7 +14,7 @@ ghost use Rattle.tta_hardware.specs.Signals as s;
 ghost use Rattle.tta_hardware.specs.Wires as w;
 
 use crate::control::{Streams, goes_line};
-use crate::offers::{Given, OpAt, all_ops, some_start, word_where};
+use crate::offers::{Given, some_start, word_where};
 use crate::on::On;
 use crate::parts::{Part, Parts};
 use crate::rows::{Clock, put_registers};
@@ -21,6 +22,7 @@ use crate::wires::put_wires;
 use std::alloc::{AllocError, Global};
 use tta_arch::Op;
 use tta_measure::{Cost, SUM};
+use tta_offers::{OpAt, all_ops};
 
 /// A word of the unit where one of some operations of a kind starts.
 fn word_now(on: &On<'_>, what: Given, ops: &[OpAt], wanted: Op) -> Cost

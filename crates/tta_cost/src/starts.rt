@@ -11,9 +11,9 @@ ghost use Rattle.tta_hardware.specs.Wires as w;
 
 use crate::on::On;
 use crate::reach::{arrivals, reached};
-use crate::units::ops_at;
 use tta_arch::{Dest, UnitOp};
 use tta_measure::Cost;
+use tta_offers::ops_at;
 
 /// Whether an operation of a unit starts.
 pub fn start(on: &On<'_>, unit: u8, op: u8) -> Cost

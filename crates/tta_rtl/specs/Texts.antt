@@ -1,11 +1,10 @@
 -- The text of lists: of choices, of wires and of registers.
-use Rattle.std.specs.Prelude.{ℕ, ◌+◌, ◌==◌, ◌&&◌, Bool, true, false, if◌then◌else◌, List, [], ◌∷◌, ◌++◌, map, filter, codes}
-use Rattle.std.specs.List.{flat_map, enumerate_from}
-use Rattle.tta_rtl.specs.Cited.{Op, UnitOp, Dest, Machine, is_dest_on, KeptOperand, KeptPort, has_result, Signal, Keeps, HasBegun, Raw, IsInside, IsDue, Due, Word, Starts, Operand, Trigger, Port, Expression, hits, arrivals, is_load, loads, read_word, result_of, wire, unit_wires, unit_registers, register, register_width, restarts, becomes, range, wire_text, register_text, names_of, text_of}
+use Rattle.std.specs.Prelude.{ℕ, ◌+◌, ◌==◌, ◌&&◌, Bool, true, false, if◌then◌else◌, List, [], ◌∷◌, ◌++◌, map, codes}
+use Rattle.std.specs.List.{flat_map}
+use Rattle.tta_rtl.specs.Cited.{UnitOp, Dest, Machine, is_dest_on, KeptOperand, KeptPort, has_result, Signal, Keeps, HasBegun, Raw, IsInside, IsDue, Due, Word, Starts, Operand, Trigger, Port, Expression, hits, arrivals, is_load, loads, read_word, result_of, wire, unit_wires, unit_registers, register, register_width, restarts, becomes, range, wire_text, register_text, names_of, text_of}
 use Rattle.tta_arch.specs.declared.parts.Unit.{Unit as OpUnit}
 use Rattle.tta_arch.specs.declared.ends.Dest.TheVariants as dest
 use Rattle.tta_hardware.specs.Signals.{Signal as Named}
-use Rattle.tta_rtl.specs.declared.starts.OpAt.{OpAt}
 use Rattle.tta_rtl.specs.declared.starts.OpWord.{OpWord}
 use Rattle.tta_rtl.specs.declared.starts.OpWord.TheVariants as of
 use Rattle.tta_rtl.specs.declared.starts.UnitWord.{UnitWord}
@@ -46,18 +45,10 @@ made_choice m unit latency o =
     if has_result o.1.op && o.1.latency == latency
     then choice_start (text_of m (Signal (Starts unit o.0))) (text_of m (result_of m unit o.1)) else []
 
--- where those operations of a unit stand that pass a test
-unfoldable pub places_in : (Op → Bool) → ℕ × OpUnit → List (ℕ × ℕ)
-places_in test u = map (λ o. (u.0, o.0)) (filter (λ o. test o.1.op) (enumerate_from 0 u.1.ops))
-
 -- what starts these operations of a unit, the first having this number
 abbrev pub triggers : Machine → (unit op : ℕ) → List UnitOp → List ℕ
 triggers m unit op [] = []
 triggers m unit op (o ∷ os) = choices m (arrivals m (dest.Trigger unit op)) ++ triggers m unit (op + 1) os
-
--- where operations stand: their units and their numbers
-abbrev pub places_of : List OpAt → List (ℕ × ℕ)
-places_of ops = map (λ o. (o.unit, o.op)) ops
 
 -- a wire of a unit
 abbrev pub unit_word : UnitWord → (unit : ℕ) → Named

@@ -9,8 +9,8 @@ ghost use Rattle.tta_names.specs.Names.{text_of};
 use crate::on::On;
 use crate::results::push_fresh;
 use crate::starts::{OpWord, push_op_word};
-use crate::units::longest;
 use std::alloc::AllocError;
+use tta_offers::longest;
 use tta_verilog::push_constant;
 
 /// Puts whether a result of a unit is due in so many cycles.

@@ -13,9 +13,9 @@ use crate::on::On;
 use crate::registers::start_register;
 use crate::results::{push_begins, push_new};
 use crate::starts::{OpWord, push_op_word};
-use crate::units::longest;
 use std::alloc::AllocError;
 use tta_arch::Machine;
+use tta_offers::longest;
 use tta_verilog::{push_constant, push_text};
 
 /// Puts whether a result of a unit is due in so many cycles at the next clock.

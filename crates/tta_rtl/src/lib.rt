@@ -26,7 +26,6 @@ mod starts;
 mod states;
 mod templates;
 mod unit_wires;
-mod units;
 mod whole;
 
 pub use code_file::write_code_file;

@@ -14,9 +14,9 @@ use crate::on::On;
 use crate::registers::start_register;
 use crate::results::is_load;
 use crate::starts::{OpWord, UnitWord, push_op_word, push_unit_word};
-use crate::units::op_at;
 use std::alloc::AllocError;
 use tta_arch::{Machine, Op, Unit, UnitOp};
+use tta_offers::op_at;
 use tta_verilog::{push_constant, push_text};
 
 /// Puts whether an operation of a unit began at the clock before.

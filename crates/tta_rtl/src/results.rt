@@ -13,9 +13,9 @@ ghost use Rattle.tta_rtl.specs.Texts.{choice_start, fresh_choice, fresh_choices,
 
 use crate::on::On;
 use crate::starts::{OpWord, UnitWord, push_op_word, push_test, push_unit_word};
-use crate::units::ops_at;
 use std::alloc::AllocError;
 use tta_arch::{Op, UnitOp};
+use tta_offers::ops_at;
 use tta_verilog::{push_constant, push_number, push_text};
 
 /// Whether an operation loads a word of a space.

@@ -7,13 +7,14 @@ ghost use Rattle.tta_arch.specs.Fields.{numbers};
 ghost use Rattle.tta_hardware.specs.Hardware.{rom};
 ghost use Rattle.tta_names.specs.Names.{names_of, text_of};
 ghost use Rattle.tta_rtl.specs.Memories.{bit_in, digits, is_inside, space_text, starts_inside, stored, words_in};
-ghost use Rattle.tta_rtl.specs.Texts.{places_of};
+ghost use Rattle.tta_offers.specs.Offers.{places_of};
 ghost use Rattle.tta_verilog.specs.Circuits as v;
 
 use crate::on::On;
-use crate::starts::{OpAt, UnitWord, push_some_start, push_word_of_start};
+use crate::starts::{UnitWord, push_some_start, push_word_of_start};
 use std::alloc::AllocError;
 use tta_arch::Machine;
+use tta_offers::OpAt;
 use tta_verilog::{push_bit, push_constant, push_number, push_range, push_text};
 
 /// Whether a bit of some bytes is set, the highest of each byte first.

@@ -15,9 +15,9 @@ ghost use Rattle.tta_verilog.specs.Circuits.{wire_text};
 use crate::on::On;
 use crate::reach::{push_arrivals, push_reached};
 use crate::starts::{OpWord, UnitWord, push_op_word, push_unit_word};
-use crate::units::ops_at;
 use std::alloc::AllocError;
 use tta_arch::{Dest, Machine, Unit, UnitOp};
+use tta_offers::ops_at;
 use tta_verilog::{push_constant, push_range, push_text};
 
 /// Puts how the line of a wire of a unit begins.

@@ -22,12 +22,12 @@ use crate::ports::push_ports;
 use crate::registers::push_kept;
 use crate::rom::{Rom, push_filed};
 use crate::spaces::{push_code, push_empty_memory, push_memory, push_store};
-use crate::starts::all_ops;
 use crate::states::push_states;
 use crate::unit_wires::push_units;
 use std::alloc::{AllocError, Global};
 use tta_arch::{Layout, Machine, Op};
 use tta_code::{Whole, lay};
+use tta_offers::all_ops;
 use tta_ops::UnitSet;
 use tta_verilog::push_text;
 

@@ -4,7 +4,7 @@ use Rattle.tta_list.proofs.Lists.{then_more}
 use Rattle.tta_list.proofs.Results.{onward}
 use Rattle.tta_rtl.specs.Cited.{text_of, write_line}
 use Rattle.tta_rtl.specs.Memories.{stored}
-use Rattle.tta_rtl.specs.Texts.{places_of}
+use Rattle.tta_offers.specs.Offers.{places_of}
 use Rattle.tta_rtl.proofs.spaces.push_store.Goals as goal
 
 pub returns : goal.returns

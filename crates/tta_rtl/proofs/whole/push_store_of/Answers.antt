@@ -3,7 +3,7 @@ use Rattle.tta_list.proofs.Results.{onward}
 use Rattle.tta_rtl.specs.Cited.{WritePort, Store}
 use Rattle.tta_hardware.specs.Signals.{Signal as Named}
 use Rattle.tta_rtl.specs.Module.{store_line}
-use Rattle.tta_rtl.specs.Texts.{places_of}
+use Rattle.tta_offers.specs.Offers.{places_of}
 use Rattle.tta_rtl.proofs.Modules.{stored_is}
 use Rattle.tta_rtl.proofs.whole.push_store_of.Goals as goal
 

@@ -1,5 +1,5 @@
 use Rattle.std.proofs.Common.{length}
-use Rattle.tta_rtl.proofs.starts.+add_ops.Given as goal
+use Rattle.tta_offers.proofs.offers.+add_ops.Given as goal
 
 -- the rest of the list is shorter
 abbrev pub decreases-add_ops : goal.decreases-add_ops

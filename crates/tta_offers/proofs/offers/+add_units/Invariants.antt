@@ -1,5 +1,5 @@
 use Rattle.std.proofs.Common.{length}
-use Rattle.tta_cost.proofs.offers.+add_units.Given as goal
+use Rattle.tta_offers.proofs.offers.+add_units.Given as goal
 
 -- the rest of the list is shorter
 abbrev pub decreases-add_units : goal.decreases-add_units
