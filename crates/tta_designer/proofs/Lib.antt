@@ -3,6 +3,7 @@ mod Laying
 mod Prompted
 mod Made
 mod Lacking
+mod TextsByStatus
 mod Circuits
 mod Powers
 mod Joined

@@ -5,6 +5,7 @@ pub mod Views
 pub mod Stages
 pub mod Subjects
 pub mod Runs
+pub mod Texts
 pub mod Circuits
 pub mod Costs
 pub mod Remarks

@@ -3,6 +3,7 @@
 #![tactic(auto)]
 
 mod command;
+mod command_words;
 mod compiled;
 mod costing;
 mod depths;

@@ -6,9 +6,10 @@ ghost use Rattle.std.specs.String.{string_bytes};
 ghost use Rattle.tta_designer.specs.Request.{asked, asks_for_net, from_request, more_request};
 ghost use Rattle.tta_designer.specs.Request.{net_request, played_request, plays, tail_request};
 
+use crate::command_words::is_rtl;
 use crate::depths::are_depths;
 use crate::names::{NetRequest, RunRequest};
-use crate::request::{Request, is_rtl};
+use crate::request::Request;
 use crate::view::RunView;
 use tta_given::bound_of;
 use tta_network::is_net;

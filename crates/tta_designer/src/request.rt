@@ -2,18 +2,20 @@
 
 ghost use Rattle.std.specs.Prelude.{◌≡◌, ◌∷◌, [], map, option_map};
 ghost use Rattle.std.specs.String.{string_bytes};
-ghost use Rattle.tta_designer.specs.Request.{asked, is_cost, is_info, is_named, is_picture, is_prompt, is_rtl};
-ghost use Rattle.tta_designer.specs.Request.{is_stages, is_view, page_request, pair_request};
-ghost use Rattle.tta_designer.specs.Request.{prompt_request, request_of, rom_request, rom_view_of};
-ghost use Rattle.tta_designer.specs.Request.{run_request, run_view_of};
-ghost use Rattle.tta_designer.specs.Request.{three_request, view_of};
+ghost use Rattle.tta_designer.specs.Request.{asked, is_named, page_request, pair_request};
+ghost use Rattle.tta_designer.specs.Request.{prompt_request, request_of, rom_request, run_request};
+ghost use Rattle.tta_designer.specs.Request.{three_request};
 
+use crate::command_words::{
+    is_cost, is_info, is_picture, is_prompt, is_rtl, is_stages, is_view, rom_view_of, run_view_of,
+    view_of,
+};
 use crate::more::of_more;
 use crate::names::{
     CostRequest, InfoRequest, MachineRequest, NetRequest, PictureRequest, PromptRequest,
     RtlRequest, RunRequest, StagesRequest,
 };
-use crate::view::{CircuitView, RunView, StagesView, View};
+use crate::view::{CircuitView, StagesView};
 use tta_given::bound_of;
 
 /// What is asked for: a view of a machine, what is told of an image for a machine, the picture of such
@@ -31,87 +33,6 @@ pub enum Request<'w> {
     Rtl(RtlRequest<'w>),
     Cost(CostRequest<'w>),
     Net(NetRequest<'w>),
-}
-
-/// The view that a word names.
-fn view_of(word: &str) -> Option<View>
-    ensures { result ≡ view_of word.now }
-{
-    if word == "picture" {
-        return Some(View::Picture);
-    }
-    if word == "info" {
-        return Some(View::Info);
-    }
-    if word == "cost" {
-        return Some(View::Cost);
-    }
-    None
-}
-
-/// The view of a run that a word names.
-fn run_view_of(word: &str) -> Option<RunView>
-    ensures { result ≡ run_view_of word.now }
-{
-    if word == "profile" {
-        return Some(RunView::Profile);
-    }
-    if word == "play" {
-        return Some(RunView::Play);
-    }
-    if word == "waves" {
-        return Some(RunView::Waves);
-    }
-    None
-}
-
-/// Whether a word names a view.
-fn is_view(word: &str) -> bool
-    ensures { result ≡ is_view word.now }
-{
-    view_of(word).is_some() || run_view_of(word).is_some()
-}
-
-/// Whether a word is the name of the command that shows stages.
-fn is_stages(word: &str) -> bool
-    ensures { result ≡ is_stages word.now }
-{
-    word == "stages"
-}
-
-/// Whether a word is the name of the command that shows a circuit.
-pub fn is_rtl(word: &str) -> bool
-    ensures { result ≡ is_rtl word.now }
-{
-    word == "rtl"
-}
-
-/// Whether a word is the name of the command that draws.
-fn is_picture(word: &str) -> bool
-    ensures { result ≡ is_picture word.now }
-{
-    word == "picture"
-}
-
-/// Whether a word is the name of the command that tells.
-fn is_info(word: &str) -> bool
-    ensures { result ≡ is_info word.now }
-{
-    word == "info"
-}
-
-/// Whether a word is the name of the command that tells what a circuit is made of.
-fn is_cost(word: &str) -> bool
-    ensures { result ≡ is_cost word.now }
-{
-    word == "cost"
-}
-
-/// Whether a word is the name of the command that is a session at a prompt.
-fn is_prompt(word: &str) -> bool
-    ensures { result ≡ is_prompt word.now }
-{
-    word == "prompt"
 }
 
 /// Whether the words begin with the name of a command that `show` carries out.
@@ -187,19 +108,6 @@ fn of_page<'w>(machine: &'w str, program: &'w str, mark: &str) -> Option<Request
         machine,
         program,
     }))
-}
-
-/// The text of a circuit that a word behind its two files names.
-fn rom_view_of(mark: &str) -> Option<CircuitView>
-    ensures { result ≡ rom_view_of mark.now }
-{
-    if mark == "rom=file" {
-        return Some(CircuitView::ModuleOfFile);
-    }
-    if mark == "rom=words" {
-        return Some(CircuitView::CodeFile);
-    }
-    None
 }
 
 /// The request of the name of the command that shows a circuit, with a word after its two files.
