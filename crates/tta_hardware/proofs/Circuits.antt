@@ -183,6 +183,10 @@ module _ (u : Units) (m : Machine) (code : Program) (memory : List ℕ) (h : Har
     rom = refl;
   }
 
+  -- code is never written
+  pub rom_stays : after.memories Code ≡ h.memories Code
+  rom_stays = has_stored.rom
+
   -- ---- a clock that carries nothing out
 
   module _ (stops : is_set (env Goes) ≡ false) where
@@ -218,9 +222,6 @@ module _ (u : Units) (m : Machine) (code : Program) (memory : List ℕ) (h : Har
     frame_stays = has_stored.frame
         ∙ ap (λ b. if b then slice_set (h.memories Frame) (value u h.memories env (store_port m m.frame_words (same_op Stf)).address)
         (value u h.memories env (store_port m m.frame_words (same_op Stf)).word) else h.memories Frame) (off _)
-
-    pub rom_stays : after.memories Code ≡ h.memories Code
-    rom_stays = has_stored.rom
 
   -- ---- a clock that begins anew
 

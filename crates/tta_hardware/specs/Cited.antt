@@ -40,4 +40,5 @@ pub use Rattle.tta_image.specs.Image.{Image, data_section, header, version_of}
 pub use Rattle.tta_image.specs.Reading.{body_in, word_count}
 pub use Rattle.tta_image.specs.Sink.{bit_value}
 pub use Rattle.tta_list.specs.Input.{left}
+pub use Rattle.tta_list.specs.Iterate.{iterate}
 pub use Rattle.tta_ops.specs.Units.{Units}

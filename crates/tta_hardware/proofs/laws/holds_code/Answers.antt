@@ -1,0 +1,5 @@
+use Rattle.tta_hardware.proofs.Running.{holds_code}
+use Rattle.tta_hardware.proofs.laws.holds_code.Goals as goal
+
+pub returns : goal.returns
+returns c = holds_code
