@@ -6,6 +6,7 @@ mod items;
 mod laws;
 mod lists;
 pub mod numbers;
+pub mod parts;
 
 pub use items::{BlockList, Item, ItemSource, LongValue, Placed, PlacedItem, Slot};
 pub use laws::{first_fit_respects, holds_each_address};

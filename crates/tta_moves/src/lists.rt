@@ -4,10 +4,10 @@ ghost use Rattle.std.specs.Prelude.{◌≡◌};
 ghost use Rattle.std.specs.List.{list_all, list_any};
 ghost use Rattle.tta_arch.specs.Rules.{IsMachine};
 ghost use Rattle.tta_connect.specs.Net.{IsNetOf};
-ghost use Rattle.tta_moves.specs.Touches.{is_control};
 ghost use Rattle.tta_moves.specs.Slots.{carried, joined, fills, has_slot, control_is_last, is_list};
 
 use crate::items::{BlockList, Item, ItemSource};
+use crate::parts::is_control;
 use tta_arch::{Dest, GuardRef, Machine, Source, Template};
 use tta_connect::{Joined, Net};
 
@@ -74,16 +74,6 @@ fn has_slot(on: &Joined<'_>, x: Item) -> bool
     match x {
         Item::Move { guard, src, dst } => is_joined(on.machine, on.net, src, dst, guard),
         Item::Long { imm, reg, .. } => is_filled(on.machine, imm, reg),
-    }
-}
-
-/// Whether an item is a jump, a call or a halt.
-fn is_control(x: Item) -> bool
-    ensures { result ≡ is_control x }
-{
-    match x {
-        Item::Move { dst, .. } => matches!(dst, Dest::Jump | Dest::Call | Dest::Halt),
-        Item::Long { .. } => false,
     }
 }
 

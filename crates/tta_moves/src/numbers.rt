@@ -2,11 +2,14 @@
 
 ghost use Rattle.std.specs.Prelude.{◌≡◌, option_map};
 ghost use Rattle.tta_arch.specs.Effects.{KeptReg, KeptImm, KeptOperand, KeptPort, KeptRa};
-ghost use Rattle.tta_moves.specs.Touches.{place_of, place_of_source};
+ghost use Rattle.tta_arch.specs.Effects.{Trigger, target_of};
+ghost use Rattle.tta_moves.specs.Touches.{place_of, place_of_source, guard_of, guard_place};
+ghost use Rattle.tta_moves.specs.Touches.{place_written, target_of_item};
 ghost use Rattle.tta_moves.specs.Numbers.{place_number};
 
-use crate::items::ItemSource;
-use tta_arch::Source;
+use crate::items::{Item, ItemSource};
+use crate::parts::operation;
+use tta_arch::{Dest, Machine, Source};
 
 /// How many registers a file has at most.
 const REGISTERS: usize = 64;
@@ -87,5 +90,55 @@ pub fn read_place(src: ItemSource) -> Option<usize>
     match src {
         ItemSource::Port(from) => read_by(from),
         ItemSource::Address(_) => None,
+    }
+}
+
+/// The number of the register of an item's guard.
+pub fn guard_place(x: Item) -> Option<usize>
+    ensures { result ≡ option_map (λ g. place_number (guard_place g)) (guard_of x) }
+{
+    match x {
+        Item::Move { guard, .. } => match guard {
+            None => None,
+            Some(g) => Some(register(g.file, g.index)),
+        },
+        Item::Long { .. } => None,
+    }
+}
+
+/// The number of the result port that an operation of a unit writes, if it has a result.
+fn result_place(m: &Machine, unit: u8, op: u8) -> Option<usize>
+    ensures { result ≡ option_map place_number (place_written m.now (Trigger unit op)) }
+{
+    let Some(o) = operation(m, unit, op) else {
+        return None;
+    };
+    if o.op.has_result() {
+        Some(port(unit))
+    } else {
+        None
+    }
+}
+
+/// The number of the place that a move to a destination writes, if there is one.
+fn written_by(m: &Machine, dst: Dest) -> Option<usize>
+    ensures { result ≡ option_map place_number (place_written m.now (target_of dst)) }
+{
+    match dst {
+        Dest::Reg { file, index } => Some(register(file, index)),
+        Dest::Operand { unit } => Some(operand(unit)),
+        Dest::Trigger { unit, op } => result_place(m, unit, op),
+        Dest::Jump | Dest::Halt => None,
+        Dest::Call => Some(return_address()),
+    }
+}
+
+/// The number of the place that an item may write, if there is one.
+pub fn written_place(m: &Machine, x: Item) -> Option<usize>
+    ensures { result ≡ option_map place_number (place_written m.now (target_of_item x)) }
+{
+    match x {
+        Item::Move { dst, .. } => written_by(m, dst),
+        Item::Long { imm, reg, .. } => Some(immediate(imm, reg)),
     }
 }
