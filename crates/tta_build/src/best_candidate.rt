@@ -42,10 +42,10 @@ fn fit_of(
     on: &Covered<'_>,
     trail: Trail,
 ) -> Result<Chosen, AllocError>
-    requires list { is_list on.now.machine.now (last_of trail).items ≡ true }
-    ensures { IfOk result (λ r. IsFitOf on.now.machine.now trail r) }
+    requires list { is_list on.now.joined.machine.now (last_of trail).items ≡ true }
+    ensures { IfOk result (λ r. IsFitOf on.now.joined.machine.now trail r) }
 {
-    let placed = placer.place(alloc, trail.last(), on.machine, on.net);
+    let placed = placer.place(alloc, trail.last(), on.joined.machine, on.joined.net);
     let (trail, placed) = beside(trail, placed)?;
     Ok(Chosen { trail, placed })
 }
@@ -59,9 +59,9 @@ fn shortest(
     b: &BlockList,
     lists: Trails,
 ) -> Result<Chosen, AllocError>
-    requires list { is_list on.now.machine.now b.now.items ≡ true }
-    requires lists { AreOfBlock on.now.machine.now b.now lists }
-    ensures { IfOk result (λ r. IsBest on.now.machine.now b.now r) }
+    requires list { is_list on.now.joined.machine.now b.now.items ≡ true }
+    requires lists { AreOfBlock on.now.joined.machine.now b.now lists }
+    ensures { IfOk result (λ r. IsBest on.now.joined.machine.now b.now r) }
 {
     let Trails { first, others } = lists;
     let mut best = fit_of(alloc, placer, on, first)?;
@@ -95,8 +95,8 @@ impl Chooser {
         on: &Covered<'_>,
         b: &BlockList,
     ) -> Result<Chosen, AllocError>
-        requires list { is_list on.now.machine.now b.now.items ≡ true }
-        ensures { IfOk result (λ r. IsBest on.now.machine.now b.now r) }
+        requires list { is_list on.now.joined.machine.now b.now.items ≡ true }
+        ensures { IfOk result (λ r. IsBest on.now.joined.machine.now b.now r) }
     {
         let lists = self.candidates.of_block(alloc, on, b)?;
         shortest(alloc, &mut self.placer, on, b, lists)
@@ -117,8 +117,8 @@ fn place_each(
     blocks: &[BlockList],
     on: &Covered<'_>,
 ) -> Result<Placements, AllocError>
-    requires lists { list_all (λ b. is_list on.now.machine.now b.items) blocks.now ≡ true }
-    ensures { IfOk result (λ r. ArePlacements on.now.machine.now blocks.now r) }
+    requires lists { list_all (λ b. is_list on.now.joined.machine.now b.items) blocks.now ≡ true }
+    ensures { IfOk result (λ r. ArePlacements on.now.joined.machine.now blocks.now r) }
 {
     let mut trails = Vec::new(alloc);
     let mut all = Vec::new(alloc);
@@ -139,10 +139,10 @@ fn placements_of(
     on: &Covered<'_>,
     blocks: &[BlockList],
 ) -> Result<Placements, AllocError>
-    requires lists { list_all (λ b. is_list on.now.machine.now b.items) blocks.now ≡ true }
-    ensures { IfOk result (λ r. ArePlacements on.now.machine.now blocks.now r) }
+    requires lists { list_all (λ b. is_list on.now.joined.machine.now b.items) blocks.now ≡ true }
+    ensures { IfOk result (λ r. ArePlacements on.now.joined.machine.now blocks.now r) }
 {
-    let mut chooser = Chooser::new(alloc, on.machine, on.choice.hub)?;
+    let mut chooser = Chooser::new(alloc, on.joined.machine, on.choice.hub)?;
     place_each(alloc, &mut chooser, blocks, on)
 }
 
@@ -153,8 +153,8 @@ pub fn plan_lists(
     on: &Covered<'_>,
     selected: Vec<BlockList>,
 ) -> Result<Planned, AllocError>
-    requires lists { list_all (λ b. is_list on.now.machine.now b.items) selected.items ≡ true }
-    ensures { IfOk result (λ r. ArePlanned on.now.machine.now selected.items r) }
+    requires lists { list_all (λ b. is_list on.now.joined.machine.now b.items) selected.items ≡ true }
+    ensures { IfOk result (λ r. ArePlanned on.now.joined.machine.now selected.items r) }
 {
     let Placements { trails, placed } = placements_of(alloc, on, selected.as_slice())?;
     Ok(Planned {

@@ -66,9 +66,9 @@ impl Candidates {
 
     /// The trail of a block by the passes alone. It fails only where there is no memory.
     fn plain(&mut self, alloc: Global, on: &Covered<'_>, b: &BlockList) -> Result<Trail, AllocError>
-        requires list { is_list on.now.machine.now b.now.items ≡ true }
-        ensures trail { IfOk result (λ t. IsTrail on.now.machine.now b.now t) }
-        ensures last { IfOk result (λ t. last_of t ≡ optimised on.now.machine.now b.now) }
+        requires list { is_list on.now.joined.machine.now b.now.items ≡ true }
+        ensures trail { IfOk result (λ t. IsTrail on.now.joined.machine.now b.now t) }
+        ensures last { IfOk result (λ t. last_of t ≡ optimised on.now.joined.machine.now b.now) }
     {
         let first = self.rounder.plain(alloc, on, b)?;
         Ok(Trail {
@@ -92,9 +92,9 @@ impl Candidates {
         lists: &mut Vec<Trail>,
         b: &BlockList,
     ) -> Result<(), AllocError>
-        requires list { is_list on.now.machine.now b.now.items ≡ true }
-        ensures { OnOk result (AreTrailsOf on.now.machine.now b.now lists.old.items
-            → AreTrailsOf on.now.machine.now b.now lists.new.items) }
+        requires list { is_list on.now.joined.machine.now b.now.items ≡ true }
+        ensures { OnOk result (AreTrailsOf on.now.joined.machine.now b.now lists.old.items
+            → AreTrailsOf on.now.joined.machine.now b.now lists.new.items) }
     {
         let by_groups = self.rounder.of_groups(alloc, on, b, usize::MAX, PLAINLY)?;
         let most = if by_groups.is_some() {
@@ -118,10 +118,10 @@ impl Candidates {
         lists: &mut Vec<Trail>,
         served: &BlockList,
     ) -> Result<(), AllocError>
-        requires list { is_list on.now.machine.now served.now.items ≡ true }
-        ensures { OnOk result ((b : BlockList) → IsStandIn on.now.machine.now b served.now
-            → AreTrailsOf on.now.machine.now b lists.old.items
-            → AreTrailsOf on.now.machine.now b lists.new.items) }
+        requires list { is_list on.now.joined.machine.now served.now.items ≡ true }
+        ensures { OnOk result ((b : BlockList) → IsStandIn on.now.joined.machine.now b served.now
+            → AreTrailsOf on.now.joined.machine.now b lists.old.items
+            → AreTrailsOf on.now.joined.machine.now b lists.new.items) }
     {
         let rounds = self.rounder.best(alloc, on, served, MANY_ITEMS, PLAINLY)?;
         push_served(alloc, lists, served, Some(rounds))?;
@@ -139,8 +139,8 @@ impl Candidates {
         on: &Covered<'_>,
         list: &BlockList,
     ) -> Result<Choices, AllocError>
-        requires list { is_list on.now.machine.now list.now.items ≡ true }
-        ensures { IfOk result (λ r. AreChoices on.now.machine.now list.now r) }
+        requires list { is_list on.now.joined.machine.now list.now.items ≡ true }
+        ensures { IfOk result (λ r. AreChoices on.now.joined.machine.now list.now r) }
     {
         let best = self.rounder.best(alloc, on, list, usize::MAX, IN_TURN)?;
         let by_items = self.rounder.of_items(alloc, on, list, FEW_ITEMS);
@@ -156,10 +156,17 @@ impl Candidates {
         on: &Covered<'_>,
         list: &BlockList,
     ) -> Result<Option<Bound>, AllocError>
-        requires list { is_list on.now.machine.now list.now.items ≡ true }
-        ensures { IfOk result (λ o. IfSome o (λ r. IsBound on.now.machine.now list.now r)) }
+        requires list { is_list on.now.joined.machine.now list.now.items ≡ true }
+        ensures { IfOk result (λ o. IfSome o (λ r. IsBound on.now.joined.machine.now list.now r)) }
     {
-        match bind(alloc, list, on.machine, on.net, on.choice, Dealing::InTurn)? {
+        match bind(
+            alloc,
+            list,
+            on.joined.machine,
+            on.joined.net,
+            on.choice,
+            Dealing::InTurn,
+        )? {
             Some(other) => {
                 let choices = self.choices(alloc, on, &other);
                 let (list, choices) = beside(other, choices)?;
@@ -178,10 +185,10 @@ impl Candidates {
         lists: &mut Vec<Trail>,
         served: BlockList,
     ) -> Result<(), AllocError>
-        requires list { is_list on.now.machine.now served.items ≡ true }
-        ensures { OnOk result ((b : BlockList) → IsStandIn on.now.machine.now b served
-            → AreTrailsOf on.now.machine.now b lists.old.items
-            → AreTrailsOf on.now.machine.now b lists.new.items) }
+        requires list { is_list on.now.joined.machine.now served.items ≡ true }
+        ensures { OnOk result ((b : BlockList) → IsStandIn on.now.joined.machine.now b served
+            → AreTrailsOf on.now.joined.machine.now b lists.old.items
+            → AreTrailsOf on.now.joined.machine.now b lists.new.items) }
     {
         let added = self.add_served(alloc, on, lists, &served);
         let (list, _) = beside(served, added)?;
@@ -200,9 +207,9 @@ impl Candidates {
         lists: &mut Vec<Trail>,
         b: &BlockList,
     ) -> Result<(), AllocError>
-        requires list { is_list on.now.machine.now b.now.items ≡ true }
-        ensures { OnOk result (AreTrailsOf on.now.machine.now b.now lists.old.items
-            → AreTrailsOf on.now.machine.now b.now lists.new.items) }
+        requires list { is_list on.now.joined.machine.now b.now.items ≡ true }
+        ensures { OnOk result (AreTrailsOf on.now.joined.machine.now b.now lists.old.items
+            → AreTrailsOf on.now.joined.machine.now b.now lists.new.items) }
     {
         self.add_own(alloc, on, lists, b)?;
         let more = self.rounder.of_way(alloc, on, b, usize::MAX, LAST_FIRST)?;
@@ -222,13 +229,13 @@ impl Candidates {
         on: &Covered<'_>,
         b: &BlockList,
     ) -> Result<Vec<Trail>, AllocError>
-        requires list { is_list on.now.machine.now b.now.items ≡ true }
-        ensures { IfOk result (λ ts. AreTrailsOf on.now.machine.now b.now ts.items) }
+        requires list { is_list on.now.joined.machine.now b.now.items ≡ true }
+        ensures { IfOk result (λ ts. AreTrailsOf on.now.joined.machine.now b.now ts.items) }
     {
         let mut lists = Vec::new(alloc);
         match self
             .reloads
-            .reload(alloc, on.machine, on.net, on.choice, b)?
+            .reload(alloc, on.joined.machine, on.joined.net, on.choice, b)?
         {
             Some(served) => {
                 self.of_served(alloc, on, &mut lists, served)?;
@@ -249,8 +256,8 @@ impl Candidates {
         on: &Covered<'_>,
         b: &BlockList,
     ) -> Result<Trails, AllocError>
-        requires list { is_list on.now.machine.now b.now.items ≡ true }
-        ensures { IfOk result (λ ts. AreOfBlock on.now.machine.now b.now ts) }
+        requires list { is_list on.now.joined.machine.now b.now.items ≡ true }
+        ensures { IfOk result (λ ts. AreOfBlock on.now.joined.machine.now b.now ts) }
     {
         let first = self.plain(alloc, on, b)?;
         let others = self.others(alloc, on, b);

@@ -48,25 +48,29 @@ fn assembled_with(
     p: &Program,
     units: &UnitSet,
 ) -> Result<Assembled, BuildError>
-    requires machine { IsMachine on.now.machine.now }
+    requires machine { IsMachine on.now.joined.machine.now }
     requires program { IsProgram p.now }
-    requires over { StandsOver (stated unit_meaning units.now) on.now.machine.now }
-    requires other { is_direct on.now.machine.now p.now ≡ false }
-    requires kept { failed_rule on.now.machine.now ≡ None }
+    requires over { StandsOver (stated unit_meaning units.now) on.now.joined.machine.now }
+    requires other { is_direct on.now.joined.machine.now p.now ≡ false }
+    requires kept { failed_rule on.now.joined.machine.now ≡ None }
     requires offered { let U = stated unit_meaning units.now in
-        are_offered U on.now.machine.now on.now.choice.now p.now ≡ true }
-    requires supplied { unsupplied (stated unit_meaning units.now) on.now.machine.now p.now ≡ None }
+        are_offered U on.now.joined.machine.now on.now.choice.now p.now ≡ true }
+    requires supplied { unsupplied (stated unit_meaning units.now) on.now.joined.machine.now p.now ≡ None }
     ensures value { let U = stated unit_meaning units.now in
-        IfOk result (λ r. IsAssembled U on.now.machine.now on.now.choice.now p.now r) }
+        IfOk result (λ r. IsAssembled U on.now.joined.machine.now on.now.choice.now p.now r) }
     ensures code { let U = stated unit_meaning units.now in
-        IfOk result (λ r. IsCodeFor U on.now.machine.now p.now r.code) }
+        IfOk result (λ r. IsCodeFor U on.now.joined.machine.now p.now r.code) }
     ensures cause { let U = stated unit_meaning units.now in
-        IfErr result (λ e. HasCause U on.now.machine.now p.now e) }
+        IfErr result (λ e. HasCause U on.now.joined.machine.now p.now e) }
 {
     let known = analyse(alloc, p)?;
     let homed = homed_best(alloc, on, p, units, &known);
     let (known, homed) = beside(known, homed)?;
-    let code = link_placed(alloc, homed.listed.planned.placed.as_slice(), on.machine)?;
+    let code = link_placed(
+        alloc,
+        homed.listed.planned.placed.as_slice(),
+        on.joined.machine,
+    )?;
     Ok(gathered(known, homed, code))
 }
 
@@ -77,19 +81,19 @@ fn assembled_by(
     p: &Program,
     units: &UnitSet,
 ) -> Result<Assembled, BuildError>
-    requires machine { IsMachine on.now.machine.now }
+    requires machine { IsMachine on.now.joined.machine.now }
     requires program { IsProgram p.now }
-    requires over { StandsOver (stated unit_meaning units.now) on.now.machine.now }
-    requires other { is_direct on.now.machine.now p.now ≡ false }
-    requires kept { failed_rule on.now.machine.now ≡ None }
+    requires over { StandsOver (stated unit_meaning units.now) on.now.joined.machine.now }
+    requires other { is_direct on.now.joined.machine.now p.now ≡ false }
+    requires kept { failed_rule on.now.joined.machine.now ≡ None }
     ensures value { let U = stated unit_meaning units.now in
-        IfOk result (λ r. IsAssembled U on.now.machine.now on.now.choice.now p.now r) }
+        IfOk result (λ r. IsAssembled U on.now.joined.machine.now on.now.choice.now p.now r) }
     ensures code { let U = stated unit_meaning units.now in
-        IfOk result (λ r. IsCodeFor U on.now.machine.now p.now r.code) }
+        IfOk result (λ r. IsCodeFor U on.now.joined.machine.now p.now r.code) }
     ensures cause { let U = stated unit_meaning units.now in
-        IfErr result (λ e. HasCause U on.now.machine.now p.now e) }
+        IfErr result (λ e. HasCause U on.now.joined.machine.now p.now e) }
 {
-    match unoffered(on.machine, on.choice, p, units) {
+    match unoffered(on.joined.machine, on.choice, p, units) {
         Some(line) => Err(BuildError::NoUnit { line }),
         None => assembled_with(alloc, on, p, units),
     }
@@ -134,8 +138,7 @@ pub fn compile_covered(
     match cover(alloc, on.machine) {
         Ok(choice) => {
             let covered = Covered {
-                machine: on.machine,
-                net: on.net,
+                joined: *on,
                 choice: &choice,
             };
             let made = assembled_by(alloc, &covered, p, units);

@@ -42,7 +42,7 @@ fn homes_for(
     known: &Analysed,
     sharing: Sharing,
 ) -> Result<Homes, AllocError>
-    requires machine { IsMachine on.now.machine.now }
+    requires machine { IsMachine on.now.joined.machine.now }
     requires known { IsAnalysed p.now known.now }
     ensures { IfOk result (λ h. AreHomesBy sharing p.now on.now.choice.now h) }
 {
@@ -59,7 +59,7 @@ fn other_homes(
     known: &Analysed,
     turns: &Homes,
 ) -> Result<Option<Homes>, AllocError>
-    requires machine { IsMachine on.now.machine.now }
+    requires machine { IsMachine on.now.joined.machine.now }
     requires known { IsAnalysed p.now known.now }
     ensures { IfOk result
         (λ o. IfSome o (λ h. AreHomesBy Sharing.Least p.now on.now.choice.now h)) }
@@ -97,20 +97,27 @@ fn listed_with(
     known: &Analysed,
     kept: &Homes,
 ) -> Result<Listed, LowerError>
-    requires machine { IsMachine on.now.machine.now }
+    requires machine { IsMachine on.now.joined.machine.now }
     requires program { IsProgram p.now }
-    requires over { StandsOver (stated unit_meaning units.now) on.now.machine.now }
+    requires over { StandsOver (stated unit_meaning units.now) on.now.joined.machine.now }
     requires offered { let U = stated unit_meaning units.now in
-        are_offered U on.now.machine.now on.now.choice.now p.now ≡ true }
+        are_offered U on.now.joined.machine.now on.now.choice.now p.now ≡ true }
     requires known { IsAnalysed p.now known.now }
     requires kept { AreAllotted p.now (length on.now.choice.now.homes) kept.now }
     ensures listed { let U = stated unit_meaning units.now in let C = on.now.choice.now in IfOk result
-        (λ r. IsListedWith kept.now U on.now.machine.now C p.now known.now r) }
-    ensures cause { IfErr result (λ e. IsCause p.now on.now.machine.now.frame_words e) }
+        (λ r. IsListedWith kept.now U on.now.joined.machine.now C p.now known.now r) }
+    ensures cause { IfErr result (λ e. IsCause p.now on.now.joined.machine.now.frame_words e) }
 {
-    let m = on.machine;
+    let m = on.joined.machine;
     let code = lower(alloc, p, &known.flow, &known.live, kept, m.frame_words)?;
-    let selected = select(alloc, &code, on.machine, on.net, on.choice, units)?;
+    let selected = select(
+        alloc,
+        &code,
+        on.joined.machine,
+        on.joined.net,
+        on.choice,
+        units,
+    )?;
     let planned = plan_lists(alloc, on, selected);
     let (code, planned) = beside(code, planned)?;
     Ok(Listed { code, planned })
@@ -125,17 +132,17 @@ fn homed_with(
     known: &Analysed,
     homes: Homes,
 ) -> Result<Homed, LowerError>
-    requires machine { IsMachine on.now.machine.now }
+    requires machine { IsMachine on.now.joined.machine.now }
     requires program { IsProgram p.now }
-    requires over { StandsOver (stated unit_meaning units.now) on.now.machine.now }
+    requires over { StandsOver (stated unit_meaning units.now) on.now.joined.machine.now }
     requires offered { let U = stated unit_meaning units.now in
-        are_offered U on.now.machine.now on.now.choice.now p.now ≡ true }
+        are_offered U on.now.joined.machine.now on.now.choice.now p.now ≡ true }
     requires known { IsAnalysed p.now known.now }
     requires kept { AreAllotted p.now (length on.now.choice.now.homes) homes }
     ensures homes { IfOk result (λ r. r.homes ≡ homes) }
     ensures listed { let U = stated unit_meaning units.now in let C = on.now.choice.now in IfOk result
-        (λ r. IsListedWith homes U on.now.machine.now C p.now known.now r.listed) }
-    ensures cause { IfErr result (λ e. IsCause p.now on.now.machine.now.frame_words e) }
+        (λ r. IsListedWith homes U on.now.joined.machine.now C p.now known.now r.listed) }
+    ensures cause { IfErr result (λ e. IsCause p.now on.now.joined.machine.now.frame_words e) }
 {
     let listed = listed_with(alloc, on, p, units, known, &homes);
     let (homes, listed) = beside(homes, listed)?;
@@ -199,15 +206,15 @@ pub fn homed_best(
     units: &UnitSet,
     known: &Analysed,
 ) -> Result<Homed, LowerError>
-    requires machine { IsMachine on.now.machine.now }
+    requires machine { IsMachine on.now.joined.machine.now }
     requires program { IsProgram p.now }
-    requires over { StandsOver (stated unit_meaning units.now) on.now.machine.now }
+    requires over { StandsOver (stated unit_meaning units.now) on.now.joined.machine.now }
     requires offered { let U = stated unit_meaning units.now in
-        are_offered U on.now.machine.now on.now.choice.now p.now ≡ true }
+        are_offered U on.now.joined.machine.now on.now.choice.now p.now ≡ true }
     requires known { IsAnalysed p.now known.now }
     ensures best { let U = stated unit_meaning units.now in IfOk result
-        (λ r. IsHomedBest U on.now.machine.now on.now.choice.now p.now known.now r) }
-    ensures cause { IfErr result (λ e. IsCause p.now on.now.machine.now.frame_words e) }
+        (λ r. IsHomedBest U on.now.joined.machine.now on.now.choice.now p.now known.now r) }
+    ensures cause { IfErr result (λ e. IsCause p.now on.now.joined.machine.now.frame_words e) }
 {
     let turns = homes_for(alloc, on, p, known, Sharing::InTurn)?;
     let first = homed_with(alloc, on, p, units, known, turns)?;

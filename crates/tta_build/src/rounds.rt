@@ -25,11 +25,11 @@ pub fn bound_by(
     list: &BlockList,
     dealing: Option<Dealing>,
 ) -> Result<Option<BlockList>, AllocError>
-    ensures { IfOk result (λ o. IfSome o (λ r. IsStandIn on.now.machine.now list.now r)) }
+    ensures { IfOk result (λ o. IfSome o (λ r. IsStandIn on.now.joined.machine.now list.now r)) }
 {
     match dealing {
         Some(by) => {
-            let bound = bind(alloc, list, on.machine, on.net, on.choice, by)?;
+            let bound = bind(alloc, list, on.joined.machine, on.joined.net, on.choice, by)?;
             Ok(bound)
         }
         None => Ok(None),
@@ -58,11 +58,13 @@ impl Rounder {
         on: &Covered<'_>,
         list: &BlockList,
     ) -> Result<Round, AllocError>
-        requires list { is_list on.now.machine.now list.now.items ≡ true }
-        ensures round { IfOk result (λ r. IsRound on.now.machine.now list.now r) }
-        ensures last { IfOk result (λ r. r.passed.lively ≡ optimised on.now.machine.now list.now) }
+        requires list { is_list on.now.joined.machine.now list.now.items ≡ true }
+        ensures round { IfOk result (λ r. IsRound on.now.joined.machine.now list.now r) }
+        ensures last { IfOk result (λ r. r.passed.lively ≡ optimised on.now.joined.machine.now list.now) }
     {
-        let passed = self.passes.passed(alloc, list, on.machine, on.net)?;
+        let passed = self
+            .passes
+            .passed(alloc, list, on.joined.machine, on.joined.net)?;
         Ok(Round {
             ordered: None,
             bound: None,
@@ -78,11 +80,13 @@ impl Rounder {
         list: BlockList,
         by: Order,
     ) -> Result<Round, AllocError>
-        requires list { is_list on.now.machine.now list.items ≡ true }
-        ensures { let M = on.now.machine.now in
+        requires list { is_list on.now.joined.machine.now list.items ≡ true }
+        ensures { let M = on.now.joined.machine.now in
             IfOk result (λ r. (b : BlockList) → IsStandIn M b list → IsRound M b r) }
     {
-        let passed = self.passes.passed(alloc, &list, on.machine, on.net)?;
+        let passed = self
+            .passes
+            .passed(alloc, &list, on.joined.machine, on.joined.net)?;
         Ok(Round {
             ordered: Some(Ordered { by, list }),
             bound: None,
@@ -99,12 +103,14 @@ impl Rounder {
         list: BlockList,
         bound: BlockList,
     ) -> Result<Round, AllocError>
-        requires stands { IsStandIn on.now.machine.now list bound }
-        requires list { is_list on.now.machine.now bound.items ≡ true }
-        ensures { let M = on.now.machine.now in
+        requires stands { IsStandIn on.now.joined.machine.now list bound }
+        requires list { is_list on.now.joined.machine.now bound.items ≡ true }
+        ensures { let M = on.now.joined.machine.now in
             IfOk result (λ r. (b : BlockList) → IsStandIn M b list → IsRound M b r) }
     {
-        let passed = self.passes.passed(alloc, &bound, on.machine, on.net)?;
+        let passed = self
+            .passes
+            .passed(alloc, &bound, on.joined.machine, on.joined.net)?;
         Ok(Round {
             ordered: Some(Ordered {
                 by: Order::Groups,
@@ -123,11 +129,13 @@ impl Rounder {
         on: &Covered<'_>,
         bound: BlockList,
     ) -> Result<Round, AllocError>
-        requires list { is_list on.now.machine.now bound.items ≡ true }
-        ensures { let M = on.now.machine.now in
+        requires list { is_list on.now.joined.machine.now bound.items ≡ true }
+        ensures { let M = on.now.joined.machine.now in
             IfOk result (λ r. (b : BlockList) → IsStandIn M b bound → IsRound M b r) }
     {
-        let passed = self.passes.passed(alloc, &bound, on.machine, on.net)?;
+        let passed = self
+            .passes
+            .passed(alloc, &bound, on.joined.machine, on.joined.net)?;
         Ok(Round {
             ordered: None,
             bound: Some(bound),
@@ -144,8 +152,8 @@ impl Rounder {
         list: BlockList,
         dealing: Option<Dealing>,
     ) -> Result<Round, AllocError>
-        requires list { is_list on.now.machine.now list.items ≡ true }
-        ensures { let M = on.now.machine.now in
+        requires list { is_list on.now.joined.machine.now list.items ≡ true }
+        ensures { let M = on.now.joined.machine.now in
             IfOk result (λ r. (b : BlockList) → IsStandIn M b list → IsRound M b r) }
     {
         let bound = bound_by(alloc, on, &list, dealing);
@@ -165,12 +173,12 @@ impl Rounder {
         list: &BlockList,
         way: Way,
     ) -> Result<Option<Round>, AllocError>
-        requires list { is_list on.now.machine.now list.now.items ≡ true }
-        ensures { IfOk result (λ o. IfSome o (λ r. IsRound on.now.machine.now list.now r)) }
+        requires list { is_list on.now.joined.machine.now list.now.items ≡ true }
+        ensures { IfOk result (λ o. IfSome o (λ r. IsRound on.now.joined.machine.now list.now r)) }
     {
         match self
             .orders
-            .order(alloc, list, on.machine, on.net, way.rule)?
+            .order(alloc, list, on.joined.machine, on.joined.net, way.rule)?
         {
             Some(other) => {
                 let round = self.grouped(alloc, on, other, way.dealing)?;
@@ -189,13 +197,16 @@ impl Rounder {
         list: &BlockList,
         ties: Ties,
     ) -> Result<Option<Round>, AllocError>
-        requires list { is_list on.now.machine.now list.now.items ≡ true }
-        ensures { IfOk result (λ o. IfSome o (λ r. IsRound on.now.machine.now list.now r)) }
+        requires list { is_list on.now.joined.machine.now list.now.items ≡ true }
+        ensures { IfOk result (λ o. IfSome o (λ r. IsRound on.now.joined.machine.now list.now r)) }
     {
-        match self
-            .orders
-            .order(alloc, list, on.machine, on.net, Rule::Items(ties))?
-        {
+        match self.orders.order(
+            alloc,
+            list,
+            on.joined.machine,
+            on.joined.net,
+            Rule::Items(ties),
+        )? {
             Some(other) => {
                 let round = self.in_order(alloc, on, other, Order::Items)?;
                 Ok(Some(round))
@@ -214,9 +225,9 @@ impl Rounder {
         first: Round,
         ties: Ties,
     ) -> Result<Rounds, AllocError>
-        requires list { is_list on.now.machine.now list.now.items ≡ true }
-        requires first { IsRound on.now.machine.now list.now first }
-        ensures { IfOk result (λ r. AreRounds on.now.machine.now list.now r) }
+        requires list { is_list on.now.joined.machine.now list.now.items ≡ true }
+        requires first { IsRound on.now.joined.machine.now list.now first }
+        ensures { IfOk result (λ r. AreRounds on.now.joined.machine.now list.now r) }
     {
         let second = self.by_items(alloc, on, first.last(), ties);
         let (first, second) = beside(first, second)?;

@@ -64,8 +64,8 @@ impl Rounder {
         list: &BlockList,
         dealing: Option<Dealing>,
     ) -> Result<Round, AllocError>
-        requires list { is_list on.now.machine.now list.now.items ≡ true }
-        ensures { IfOk result (λ r. IsRound on.now.machine.now list.now r) }
+        requires list { is_list on.now.joined.machine.now list.now.items ≡ true }
+        ensures { IfOk result (λ r. IsRound on.now.joined.machine.now list.now r) }
     {
         match bound_by(alloc, on, list, dealing)? {
             Some(bound) => {
@@ -85,8 +85,8 @@ impl Rounder {
         list: &BlockList,
         way: Way,
     ) -> Result<Round, AllocError>
-        requires list { is_list on.now.machine.now list.now.items ≡ true }
-        ensures { IfOk result (λ r. IsRound on.now.machine.now list.now r) }
+        requires list { is_list on.now.joined.machine.now list.now.items ≡ true }
+        ensures { IfOk result (λ r. IsRound on.now.joined.machine.now list.now r) }
     {
         match self.by_groups(alloc, on, list, way)? {
             Some(round) => Ok(round),
@@ -104,8 +104,8 @@ impl Rounder {
         most: usize,
         way: Way,
     ) -> Result<Option<Rounds>, AllocError>
-        requires list { is_list on.now.machine.now list.now.items ≡ true }
-        ensures { IfOk result (λ o. IfSome o (λ r. AreRounds on.now.machine.now list.now r)) }
+        requires list { is_list on.now.joined.machine.now list.now.items ≡ true }
+        ensures { IfOk result (λ o. IfSome o (λ r. AreRounds on.now.joined.machine.now list.now r)) }
     {
         if !is_worth(list, most) {
             return Ok(None);
@@ -125,8 +125,8 @@ impl Rounder {
         most: usize,
         way: Way,
     ) -> Result<Option<Rounds>, AllocError>
-        requires list { is_list on.now.machine.now list.now.items ≡ true }
-        ensures { IfOk result (λ o. IfSome o (λ r. AreRounds on.now.machine.now list.now r)) }
+        requires list { is_list on.now.joined.machine.now list.now.items ≡ true }
+        ensures { IfOk result (λ o. IfSome o (λ r. AreRounds on.now.joined.machine.now list.now r)) }
     {
         if !is_worth(list, most) {
             return Ok(None);
@@ -150,8 +150,8 @@ impl Rounder {
         list: &BlockList,
         most: usize,
     ) -> Result<Option<Rounds>, AllocError>
-        requires list { is_list on.now.machine.now list.now.items ≡ true }
-        ensures { IfOk result (λ o. IfSome o (λ r. AreRounds on.now.machine.now list.now r)) }
+        requires list { is_list on.now.joined.machine.now list.now.items ≡ true }
+        ensures { IfOk result (λ o. IfSome o (λ r. AreRounds on.now.joined.machine.now list.now r)) }
     {
         let first = self.plain(alloc, on, list)?;
         if !is_worth(first.last(), most) {
@@ -174,8 +174,8 @@ impl Rounder {
         most: usize,
         way: Way,
     ) -> Result<Rounds, AllocError>
-        requires list { is_list on.now.machine.now list.now.items ≡ true }
-        ensures { IfOk result (λ r. AreRounds on.now.machine.now list.now r) }
+        requires list { is_list on.now.joined.machine.now list.now.items ≡ true }
+        ensures { IfOk result (λ r. AreRounds on.now.joined.machine.now list.now r) }
     {
         match self.of_groups(alloc, on, list, most, way)? {
             Some(rounds) => Ok(rounds),

@@ -5,11 +5,11 @@ use Rattle.tta_build.specs.Trail.{last_of}
 use Rattle.tta_build.proofs.best_candidate.fit_of.Goals as goal
 
 pub place-placed-requires-clause-list : goal.place-placed-requires-clause-list
-place-placed-requires-clause-list c = subst (λ (b : BlockList). is_list c.args.on.now.machine.now b.items ≡ true) (sym c.last.ensures) c.requires.list
+place-placed-requires-clause-list c = subst (λ (b : BlockList). is_list c.args.on.now.joined.machine.now b.items ≡ true) (sym c.last.ensures) c.requires.list
 
 pub returns : goal.returns
 returns c =
-    let m = c.args.on.now.machine.now in
+    let m = c.args.on.now.joined.machine.now in
     let p = c.in_ok-trail.placed in
     let here : (P : List Item → Placed → Type 0) → IfOk c.place-placed.result (P c.last.result.now.items) → P (last_of c.args.trail).items p =
     λ P has. subst (λ (b : BlockList). P b.items p) c.last.ensures (IfOk-at_ok (P c.last.result.now.items) c.in_ok-trail.ensures.other has) in record {

@@ -8,7 +8,7 @@ use Rattle.tta_build.proofs.best_candidate.place_each.Goals as goal
 pub loop-b-preserved : goal.loop-b-preserved
 loop-b-preserved c =
     let here = slice_get_read c.args.blocks.now (length c.args.blocks.now) c.loop-b.b-index c.b-item.result refl (omega arith) c.b-item.is in
-    block_more c.args.on.now.machine.now c.args.blocks.now c.loop-b.trails.items c.push.new.self.items c.loop-b.all.items c.push-in-loop-b.new.self.items c.loop-b.b-index
+    block_more c.args.on.now.joined.machine.now c.args.blocks.now c.loop-b.trails.items c.push.new.self.items c.loop-b.all.items c.push-in-loop-b.new.self.items c.loop-b.b-index
     c.b-item.result c.in_ok-trail.field-0 c.loop-b.invariant here c.in_ok-trail.ensures c.in_ok-push.ensures.items c.in_ok-push-2.ensures.items
 
 pub returns : goal.returns

@@ -5,7 +5,7 @@ use Rattle.tta_build.proofs.best_candidate.plan_lists.Goals as goal
 
 pub returns : goal.returns
 returns c =
-    let m = c.args.on.now.machine.now in
+    let m = c.args.on.now.joined.machine.now in
     let are = subst (λ (ls : List BlockList). ArePlacements m ls c.in_ok-trails.field-0) c.as_slice.ensures.value c.in_ok-trails.ensures in record {
       selected = refl;
       trails = are.trails;

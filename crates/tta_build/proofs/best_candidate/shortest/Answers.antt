@@ -13,14 +13,14 @@ nothing_left [] h = refl
 nothing_left (x ∷ xs) h = absurd (omega arith)
 
 pub fit_of-requires : goal.fit_of-requires
-fit_of-requires c = record { list = trail_list c.args.on.now.machine.now c.args.b.now c.args.lists.first c.requires.lists.first c.requires.list }
+fit_of-requires c = record { list = trail_list c.args.on.now.joined.machine.now c.args.b.now c.args.lists.first c.requires.lists.first c.requires.list }
 
 pub loop-trail-init : goal.loop-trail-init
-loop-trail-init c = (refl, kept_one c.args.on.now.machine.now c.args.lists.first c.in_ok-best.best c.in_ok-best.ensures, search)
+loop-trail-init c = (refl, kept_one c.args.on.now.joined.machine.now c.args.lists.first c.in_ok-best.best c.in_ok-best.ensures, search)
 
 pub fit_of-other-requires : goal.fit_of-other-requires
 fit_of-other-requires c =
-    let m = c.args.on.now.machine.now in
+    let m = c.args.on.now.joined.machine.now in
     let at = c.loop-trail in
     let x = c.in-Some.trail in
     let steps : into_iter_items at.trail-iterator ≡ x ∷ into_iter_items c.next.new.self = c.in-Some.ensures.steps.0 in
@@ -30,7 +30,7 @@ fit_of-other-requires c =
 
 pub loop-trail-preserved : goal.loop-trail-preserved
 loop-trail-preserved c =
-    let m = c.args.on.now.machine.now in
+    let m = c.args.on.now.joined.machine.now in
     let at = c.loop-trail in
     let x = c.in-Some.trail in
     let first = c.args.lists.first in
@@ -48,7 +48,7 @@ loop-trail-preserved c =
 
 pub returns : goal.returns
 returns c =
-    let m = c.args.on.now.machine.now in
+    let m = c.args.on.now.joined.machine.now in
     let at = c.loop-trail in
     let first = c.args.lists.first in
     let none = c.in-None.ensures.steps in

@@ -5,5 +5,5 @@ use Rattle.tta_build.proofs.best_candidate.shortest.Given as goal
 
 abbrev pub invariant-loop-trail : goal.invariant-loop-trail
 invariant-loop-trail l = (l.yielded ++ into_iter_items l.trail-iterator ≡ into_iter_items l.initial.trail-iterator)
-    × IsKept l.on.machine.now (l.fn.lists.first ∷ l.yielded) l.best
+    × IsKept l.on.joined.machine.now (l.fn.lists.first ∷ l.yielded) l.best
     × (into_iter_len l.trail-iterator ≡ length (into_iter_items l.trail-iterator))

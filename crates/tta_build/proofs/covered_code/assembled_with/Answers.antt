@@ -11,7 +11,7 @@ use Rattle.tta_build.proofs.covered_code.assembled_with.Goals as goal
 pub link_placed-requires : goal.link_placed-requires
 link_placed-requires g c =
     let U = stated (λ v. (goal.OpUnit-dyn g v).unit_meaning v.1) c.args.units.now in
-    let m = c.args.on.now.machine.now in
+    let m = c.args.on.now.joined.machine.now in
     let choice = c.args.on.now.choice.now in
     let p = c.args.p.now in
     let best = IfOk-at_ok (λ (r : Homed). IsHomedBest U m choice p c.in_ok-known.known r) c.in_ok-known-2.ensures.other c.homed_best-homed.ensures.best in
@@ -21,7 +21,7 @@ link_placed-requires g c =
 pub returns-clause-code : goal.returns-clause-code
 returns-clause-code g c =
     let U = stated (λ v. (goal.OpUnit-dyn g v).unit_meaning v.1) c.args.units.now in
-    let m = c.args.on.now.machine.now in
+    let m = c.args.on.now.joined.machine.now in
     let choice = c.args.on.now.choice.now in
     let p = c.args.p.now in
     let best = IfOk-at_ok (λ (r : Homed). IsHomedBest U m choice p c.in_ok-known.known r) c.in_ok-known-2.ensures.other c.homed_best-homed.ensures.best in
@@ -33,7 +33,7 @@ returns-clause-code g c =
 pub returns-in_err-code-clause-cause : goal.returns-in_err-code-clause-cause
 returns-in_err-code-clause-cause g c =
     let U = stated (λ v. (goal.OpUnit-dyn g v).unit_meaning v.1) c.args.units.now in
-    let m = c.args.on.now.machine.now in
+    let m = c.args.on.now.joined.machine.now in
     let choice = c.args.on.now.choice.now in
     let p = c.args.p.now in
     let best = IfOk-at_ok (λ (r : Homed). IsHomedBest U m choice p c.in_ok-known.known r) c.in_ok-known-2.ensures.other c.homed_best-homed.ensures.best in

@@ -12,7 +12,7 @@ use Rattle.tta_build.proofs.placed_program.homed_best.Goals as goal
 pub returns-in-None-clause-best : goal.returns-in-None-clause-best
 returns-in-None-clause-best g c =
     let U = stated (λ v. (goal.OpUnit-dyn g v).unit_meaning v.1) c.args.units.now in
-    let m = c.args.on.now.machine.now in
+    let m = c.args.on.now.joined.machine.now in
     let choice = c.args.on.now.choice.now in
     let p = c.args.p.now in
     let known = c.args.known.now in
@@ -23,7 +23,7 @@ returns-in-None-clause-best g c =
 pub returns-in_ok-first-in-Some-clause-best : goal.returns-in_ok-first-in-Some-clause-best
 returns-in_ok-first-in-Some-clause-best g c =
     let U = stated (λ v. (goal.OpUnit-dyn g v).unit_meaning v.1) c.args.units.now in
-    let m = c.args.on.now.machine.now in
+    let m = c.args.on.now.joined.machine.now in
     let choice = c.args.on.now.choice.now in
     let p = c.args.p.now in
     let known = c.args.known.now in

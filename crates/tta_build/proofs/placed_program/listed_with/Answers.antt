@@ -15,7 +15,7 @@ pub select-requires-clause-fits : goal.select-requires-clause-fits
 select-requires-clause-fits g c =
     let U = stated (λ v. (goal.OpUnit-dyn g v).unit_meaning v.1) c.args.units.now in
     let on = c.args.on.now in
-    blocks_fit U on.machine.now on.choice.now c.args.p.now c.requires.machine c.requires.over on.choice_of c.requires.program c.requires.offered
+    blocks_fit U on.joined.machine.now on.choice.now c.args.p.now c.requires.machine c.requires.over on.choice_of c.requires.program c.requires.offered
     c.in_ok-code.code
     (lowered_with c.args.p.now c.args.known.now c.args.kept.now _ _ _ c.in_ok-code.code c.requires.known c.requires.kept
     (ap (λ (x : Machine). x.frame_words) c.m.view_is) c.in_ok-code.ensures.code)
@@ -26,9 +26,9 @@ plan_lists-planned-requires g c =
     let on = c.args.on.now in
     let words = ap (λ (x : Machine). x.frame_words) c.m.view_is in
     record {
-      lists = selected_lists U on.machine.now on.choice.now c.args.p.now c.requires.machine c.requires.over on.choice_of c.requires.program c.requires.offered
+      lists = selected_lists U on.joined.machine.now on.choice.now c.args.p.now c.requires.machine c.requires.over on.choice_of c.requires.program c.requires.offered
           c.in_ok-selected.selected.items
-          (selected_with U on.machine.now on.choice.now c.args.p.now c.requires.machine c.requires.over on.choice_of c.requires.program c.requires.offered
+          (selected_with U on.joined.machine.now on.choice.now c.args.p.now c.requires.machine c.requires.over on.choice_of c.requires.program c.requires.offered
           c.args.known.now c.args.kept.now _ c.in_ok-code.code c.in_ok-selected.selected.items c.requires.known c.requires.kept
           words c.in_ok-code.ensures.code c.in_ok-selected.ensures.lists).of;
     }
@@ -36,7 +36,7 @@ plan_lists-planned-requires g c =
 pub returns-clause-listed : goal.returns-clause-listed
 returns-clause-listed g c =
     let U = stated (λ v. (goal.OpUnit-dyn g v).unit_meaning v.1) c.args.units.now in
-    let m = c.args.on.now.machine.now in
+    let m = c.args.on.now.joined.machine.now in
     let choice = c.args.on.now.choice.now in
     let known = c.args.known.now in
     let both = c.in_ok-code-2.ensures in

@@ -8,7 +8,7 @@ use Rattle.tta_build.proofs.candidates.Candidates.add_own.Goals as goal
 
 pub returns : goal.returns
 returns c all =
-    let m = c.args.on.now.machine.now in
+    let m = c.args.on.now.joined.machine.now in
     let b = c.args.b.now in
     let one = c.in_ok-by_groups-2.ensures in
     let two = c.in_ok-by_groups-3.ensures in

@@ -9,7 +9,7 @@ use Rattle.tta_build.proofs.candidates.Candidates.of_block.Goals as goal
 
 pub returns : goal.returns
 returns c =
-    let m = c.args.on.now.machine.now in
+    let m = c.args.on.now.joined.machine.now in
     let b = c.args.b.now in
     let both = c.in_ok-first-2.ensures in record {
       first = subst (IsTrail m b) (sym both.first) c.in_ok-first.ensures.trail;

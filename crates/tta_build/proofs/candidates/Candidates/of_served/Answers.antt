@@ -9,7 +9,7 @@ use Rattle.tta_build.proofs.candidates.Candidates.of_served.Goals as goal
 
 pub returns : goal.returns
 returns c b stands all =
-    let m = c.args.on.now.machine.now in
+    let m = c.args.on.now.joined.machine.now in
     let one = c.in_ok-list.ensures in
     let two = c.in_ok-other.ensures in
     let same : c.in_ok-other.other ≡ c.args.served = two.first ∙ one.first in

@@ -6,7 +6,7 @@ use Rattle.tta_build.proofs.rounds.Rounder.grouped.Goals as goal
 
 pub on_units-requires : goal.on_units-requires
 on_units-requires c =
-    let m = c.args.on.now.machine.now in
+    let m = c.args.on.now.joined.machine.now in
     let both = c.in_ok-list.ensures in
     let some = IfOk-at_ok (λ (o : Option BlockList). IfSome o (λ r. IsStandIn m c.args.list r)) both.other c.bound_by-bound.ensures in
     let stands = subst (λ (o : Option BlockList). IfSome o (λ r. IsStandIn m c.args.list r)) c.in-Some.is some in

@@ -9,13 +9,13 @@ use Rattle.tta_build.proofs.rounds.Rounder.with_items.Goals as goal
 
 pub by_items-second-requires : goal.by_items-second-requires
 by_items-second-requires c = record {
-  list = subst (λ (b : BlockList). is_list c.args.on.now.machine.now b.items ≡ true) (sym c.last.ensures)
-      (round_list c.args.on.now.machine.now c.args.list.now c.args.first c.requires.first c.requires.list);
+  list = subst (λ (b : BlockList). is_list c.args.on.now.joined.machine.now b.items ≡ true) (sym c.last.ensures)
+      (round_list c.args.on.now.joined.machine.now c.args.list.now c.args.first c.requires.first c.requires.list);
 }
 
 pub returns : goal.returns
 returns c =
-    let m = c.args.on.now.machine.now in
+    let m = c.args.on.now.joined.machine.now in
     let both = c.in_ok-first.ensures in
     let last = subst (λ (b : BlockList). IfSome c.in_ok-first.second (λ n. IsRound m b n)) c.last.ensures
     (IfOk-at_ok (λ (o : Option Round). IfSome o (λ n. IsRound m c.last.result.now n)) both.other c.by_items-second.ensures) in
