@@ -33,7 +33,7 @@ QUICKLY, FOR_SPEED = "release", "fast"
 # The oldest cargo that knows the edition of the sources.
 OLDEST = (1, 85)
 # The crates that meet the host, each with the file that does so in a plain program.
-HOSTS = {"tta_ports": "host.rs", "tta_lines": "lines.rs"}
+HOSTS = {"tta_ports": "host.rs", "tta_stdin": "lines.rs"}
 # A crate that is none of the repository's: its name, the folder of its source, and the crates that it stands on.
 Added = namedtuple("Added", "name source stands_on")
 

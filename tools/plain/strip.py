@@ -1,9 +1,9 @@
 """Makes plain Rust of the sources of the crates: contracts and ghost items are left out, and the kit's names become those of
-its stand-in. What meets the host, in tta_ports and tta_lines, is replaced by host.rs and lines.rs, which stand beside this file."""
+its stand-in. What meets the host, in tta_ports and tta_stdin, is replaced by host.rs and lines.rs, which stand beside this file."""
 import os
 import re
 
-# The parts of tta_ports and tta_lines that meet the host, and those that stand for it in tests.
+# The parts of tta_ports and tta_stdin that meet the host, and those that stand for it in tests.
 HOSTS = ["real_files", "real_sink", "transfer", "mem_files", "mem_sink", "real_lines", "one_line", "mem_lines"]
 # What stands in the place of those of which a crate's root names one.
 IN_THEIR_PLACE = {

@@ -3,7 +3,7 @@ use Rattle.std.proofs.Common.{◌≡◌, ℕ, suc, zero, ◌+◌, ◌==◌, Bool
 use Rattle.std.proofs.Math.Seq.{drop-append_seam}
 use Rattle.std.specs.List.{filter_map}
 use Rattle.tta_debug.specs.Cited.{Units, Machine, Kind, Jumps, Calls, Halts, control_of, first_some, bring, write_of, start_of, Code, Instruction, State, Outcome, Running, Halted, Waiting, Fault, Pending, next, next_of, carry_out, or_fault, or_wait, waits, acts, lands, takes_effect, pending_after, effects_of, read_source, fault_of, reply_text, left, Stands, Output, IsPut, IsCut}
-use Rattle.tta_print.specs.declared.reply.Reply.TheVariants as reply
+use Rattle.tta_report.specs.declared.reply.Reply.TheVariants as reply
 use Rattle.tta_debug.specs.Debugged.{Debugged, Said, texts, is_running, is_waiting, moved, puts, rests, saying, cycles}
 use Rattle.tta_debug.specs.Sessions.{Session', IsOver, IsMade, word_text}
 

@@ -7,7 +7,7 @@ use Rattle.tta_list.proofs.Lists.{all_append}
 use Rattle.tta_arch.specs.declared.parts.Unit.{Unit as OpUnit}
 use Rattle.tta_debug.specs.Cited.{Machine, IsMachine, IsMachineName, Result', due_text, due_at}
 use Rattle.std.specs.Io.KnownBytes.{append_known}
-use Rattle.tta_print.proofs.Puts.{HasPut}
+use Rattle.tta_report.proofs.Puts.{HasPut}
 use Rattle.tta_debug.specs.Debugged.{Debugged, Said, texts, due_line, due_lines, unit_lines}
 use Rattle.tta_debug.proofs.Running.{texts_both}
 

@@ -5,8 +5,8 @@ use Rattle.std.specs.Io.KnownBytes.{append_known}
 use Rattle.std.proofs.Math.Seq.{take-append_seam}
 use Rattle.std.proofs.lemmas.List.{take-append-drop}
 use Rattle.tta_debug.specs.Cited.{Rose, Failed, Units, Machine, Code, reply_text, Output, IsPut, IsCut}
-use Rattle.tta_print.proofs.Puts.{append_known-nil, append_known-twice}
-use Rattle.tta_print.specs.declared.reply.Reply.TheVariants as reply
+use Rattle.tta_report.proofs.Puts.{append_known-nil, append_known-twice}
+use Rattle.tta_report.specs.declared.reply.Reply.TheVariants as reply
 use Rattle.tta_debug.specs.Debugged.{Debugged, Said, Done, texts, command, goes_on, saying_first, session}
 use Rattle.tta_debug.specs.Sessions.{Session', Follows, IsStopped}
 use Rattle.tta_debug.specs.Scripts.{line_text, line_says, line_leaves, line_goes, TakesLine, TakesScript, script_says, lines_of}

@@ -1,6 +1,6 @@
 -- Worked sessions.
 use Rattle.std.specs.Prelude.{◌≡◌, ℕ, List, [], ◌∷◌, ◌++◌, map, if◌then◌else◌, Some, None, Option, Result, Ok, Err, codes, refl}
-use Rattle.tta_print.specs.declared.reply.Reply.TheVariants as reply
+use Rattle.tta_report.specs.declared.reply.Reply.TheVariants as reply
 use Rattle.tta_debug.specs.Cited.{reply_text, due_text, Units, Machine, tokens_of, tokens_from, piece_at, number_piece, mark_piece, negative_piece, number_of, negative_of, digits_of, value_below, Code, Instruction, start, next}
 use Rattle.tta_arch.proofs.Samples.{three_buses, with_input}
 use Rattle.tta_arch.specs.declared.ends.Source.TheVariants as source

@@ -4,7 +4,7 @@ use Rattle.std.specs.Prelude.{Result, Ok, Err, IsErr}
 use Rattle.std.specs.Io.KnownBytes.{append_known}
 use Rattle.std.proofs.lemmas.Grind.{flat_map-append}
 use Rattle.tta_debug.specs.Cited.{Rose, Failed, State, Output, IsPut, IsCut, IsQuiet}
-use Rattle.tta_print.proofs.Puts.{append_known-nil, append_known-twice}
+use Rattle.tta_report.proofs.Puts.{append_known-nil, append_known-twice}
 use Rattle.tta_debug.specs.Debugged.{Debugged, has, is_at_stop, Said, Went, texts, is_waiting, moved, puts, rests, saying, cycles}
 use Rattle.tta_debug.specs.Sessions.{Session', Follows, IsStopped, IsOver, IsMade, IsStuck, Runs}
 

@@ -7,8 +7,8 @@ use Rattle.std.proofs.Math.Seq.{take-append-add}
 use Rattle.std.proofs.lemmas.Bool.{leb-true, leb-false}
 use Rattle.std.proofs.lemmas.List.{take-append-le}
 use Rattle.tta_debug.specs.Cited.{Rose, Reply, Stands, reply_text, Output, IsPut}
-use Rattle.tta_print.specs.declared.reply.Reply.TheVariants as reply
-use Rattle.tta_print.proofs.Puts.{append_known-nil, append_known-twice}
+use Rattle.tta_report.specs.declared.reply.Reply.TheVariants as reply
+use Rattle.tta_report.proofs.Puts.{append_known-nil, append_known-twice}
 use Rattle.tta_debug.specs.declared.told.Told.{Told}
 use Rattle.tta_debug.specs.declared.told.Told.TheVariants.{More, Bye}
 use Rattle.tta_debug.specs.declared.told.CommandError.{CommandError}

@@ -5,7 +5,7 @@ use Rattle.std.specs.Io.KnownBytes.{append_known}
 use Rattle.std.proofs.Math.Seq.{take-append_seam}
 use Rattle.std.proofs.lemmas.List.{take-append-drop}
 use Rattle.tta_debug.specs.Cited.{Rose, reply_text, Output, IsPut, IsCut, IsQuiet}
-use Rattle.tta_print.specs.declared.reply.Reply.TheVariants as reply
+use Rattle.tta_report.specs.declared.reply.Reply.TheVariants as reply
 use Rattle.tta_debug.specs.declared.told.Told.TheVariants.{More, Bye}
 use Rattle.tta_debug.specs.declared.told.CommandError.TheVariants.{Refused, SinkFailed}
 use Rattle.tta_debug.specs.Debugged.{Debugged, Done, texts}

@@ -4,7 +4,7 @@ use Rattle.std.specs.Option.{option_map_or}
 use Rattle.std.specs.List.{flat_map, list_any, position}
 use Rattle.std.specs.Str.{bytes_eq}
 use Rattle.tta_debug.specs.Cited.{Reply, reply_text, due_text, Units, File, Machine, KeptReg, kept, Code, State, Outcome, Running, Halted, Waiting, Fault, next, due_at}
-use Rattle.tta_print.specs.declared.reply.Reply.TheVariants as reply
+use Rattle.tta_report.specs.declared.reply.Reply.TheVariants as reply
 use Rattle.tta_arch.specs.declared.parts.Unit.{Unit as OpUnit}
 use Rattle.tta_code.specs.Cycle.{port as port_of}
 use Rattle.tta_debug.specs.Words.{words_of}

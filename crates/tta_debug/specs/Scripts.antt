@@ -2,7 +2,7 @@
 use Rattle.std.specs.Prelude.{◌≡◌, ◌==◌, ℕ, Bool, true, not, if◌then◌else◌, List, [], ◌∷◌, ◌++◌, Result, Ok, Err}
 use Rattle.std.specs.List.{prefix_len}
 use Rattle.tta_debug.specs.Cited.{Failed, reply_text, Units, Machine, Code, Output, IsPut, IsCut}
-use Rattle.tta_print.specs.declared.reply.Reply.TheVariants as reply
+use Rattle.tta_report.specs.declared.reply.Reply.TheVariants as reply
 use Rattle.tta_debug.specs.Debugged.{Debugged, Said, Done, texts, say, command}
 use Rattle.tta_debug.specs.Sessions.{Session', Follows}
 

@@ -20,7 +20,7 @@ use tta_arch::Machine;
 use tta_code::Code;
 use tta_ops::UnitSet;
 use tta_ports::{Failed, Sink};
-use tta_print::Reply;
+use tta_report::Reply;
 
 /// Sets a breakpoint.
 #[tactic(auto, using(crate::proofs::Saying::keeps_said))]

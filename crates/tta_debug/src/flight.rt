@@ -9,7 +9,7 @@ ghost use Rattle.tta_debug.specs.Debugged.{Debugged, texts, due_line, due_lines,
 
 use tta_arch::{Machine, Unit};
 use tta_ports::{Failed, Sink};
-use tta_print::put_due;
+use tta_report::put_due;
 use tta_sim::Sim;
 
 /// Puts the line of a unit's result that is due so many cycles from now, if one is.

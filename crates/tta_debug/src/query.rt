@@ -10,7 +10,7 @@ ghost use Rattle.tta_debug.specs.Debugged as spec;
 
 use crate::asked::Query;
 use tta_arch::{File, Machine, Unit};
-use tta_print::Reply;
+use tta_report::Reply;
 use tta_sim::Sim;
 
 /// The word of a place.

@@ -18,7 +18,7 @@ use crate::say::{put, say};
 use crate::session::Session;
 use crate::told::{CommandError, Told};
 use tta_ports::{Failed, Sink};
-use tta_print::Reply;
+use tta_report::Reply;
 use tta_sim::CycleStep;
 
 /// What became of a cycle.

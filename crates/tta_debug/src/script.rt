@@ -17,7 +17,7 @@ use tta_arch::Machine;
 use tta_code::Code;
 use tta_ops::UnitSet;
 use tta_ports::{Failed, Sink};
-use tta_print::Reply;
+use tta_report::Reply;
 
 /// Carries out a line, which is a command, and puts its reply or its refusal. It takes no memory, and
 /// answers whether the session goes on: it does but after `quit`.

@@ -11,7 +11,7 @@ use crate::blocks::{Ranges, push_origins};
 use crate::variables::Variables;
 use std::alloc::{AllocError, Global};
 use tta_arch::Machine;
-use tta_blocks::Compiled;
+use tta_block_profile::Compiled;
 use tta_connect::Choice;
 use tta_stages::block_starts;
 

@@ -2,7 +2,7 @@
 use Rattle.std.proofs.Common.{◌≡◌, ℕ, Bool, true, false, if◌then◌else◌, List, [], ◌∷◌, refl, ap, ◌∙◌}
 use Rattle.std.specs.Prelude.{All, Result, Ok, Err}
 use Rattle.std.proofs.lemmas.List.Elements.{All-head, All-tail}
-use Rattle.tta_print.specs.declared.reply.Reply.TheVariants as reply
+use Rattle.tta_report.specs.declared.reply.Reply.TheVariants as reply
 use Rattle.tta_prompt.specs.Cited.{reply_text, Units, Machine, Debugged, Done, texts, command, goes_on, saying_first, session}
 use Rattle.tta_code.specs.declared.code.Code.{Code}
 use Rattle.tta_prompt.specs.Prompted.{line_done, prompted}

@@ -3,7 +3,7 @@ use Rattle.std.proofs.Common.{◌≡◌, ℕ, ◌+◌, ◌-◌, true, false, Lis
 use Rattle.std.specs.Prelude.{Result, Ok, Err}
 use Rattle.std.proofs.lemmas.List.Sums.{sum_by-append}
 use Rattle.tta_prompt.specs.Cited.{Output, IsPut, Come, with_lines, Units, Machine, Debugged, Done, Session', Follows, line_text}
-use Rattle.tta_print.proofs.Puts.{append_known-nil}
+use Rattle.tta_report.proofs.Puts.{append_known-nil}
 use Rattle.tta_code.specs.declared.code.Code.{Code}
 use Rattle.tta_debug.proofs.Folding.{put_after}
 use Rattle.tta_prompt.specs.declared.error.PromptError.{PromptError}

@@ -9,13 +9,13 @@ pub use Rattle.tta_debug.specs.Debugged.{Debugged, Done, command, goes_on, sayin
 pub use Rattle.tta_debug.specs.Scripts.{line_goes, line_leaves, line_says, line_text}
 pub use Rattle.tta_debug.specs.Sessions.{Follows, IsStopped, PutsLine, Session'}
 unfoldable pub use Rattle.tta_debug.specs.Words.{words_of}
-pub use Rattle.tta_lines.specs.Come.{Come, Comes, IfLine, IsFailed, with_end, with_lines, with_overlong}
-pub use Rattle.tta_lines.specs.declared.error.LineError.{LineError}
+pub use Rattle.tta_stdin.specs.Come.{Come, Comes, IfLine, IsFailed, with_end, with_lines, with_overlong}
+pub use Rattle.tta_stdin.specs.declared.error.LineError.{LineError}
 pub use Rattle.tta_ops.specs.Set.{stated}
 pub use Rattle.tta_ops.specs.Units.{Units}
 pub use Rattle.tta_ports.specs.Output.{IsCut, IsPut, IsQuiet, Output}
 pub use Rattle.tta_ports.specs.declared.error.Failed.{Failed}
-pub use Rattle.tta_print.specs.Replies.{reply_text}
+pub use Rattle.tta_report.specs.Replies.{reply_text}
 pub use Rattle.tta_reading.specs.Lines.{Lexeme, Line}
 pub use Rattle.tta_reading.specs.Words.{is_keyword, value_of}
 pub use Rattle.tta_sim.specs.Held.{IsRunOf, Stands}

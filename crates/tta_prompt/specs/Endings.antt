@@ -2,7 +2,7 @@
 use Rattle.std.specs.Prelude.{◌≡◌, ◌⊎◌, ℕ, ◌+◌, ◌-◌, ◌^◌, Bool, true, false, Option, Some, None, List, [], ◌∷◌, ◌++◌, length, Result, Ok, Err}
 use Rattle.std.specs.List.{sum_by}
 use Rattle.tta_prompt.specs.Cited.{Output, IsPut, IsCut, IsQuiet, Failed, reply_text, Come, with_lines, with_end, with_overlong, IsFailed, Units, Machine, Debugged, Done, Session', Follows, IsStopped, PutsLine, line_text, line_says, line_goes, line_leaves}
-use Rattle.tta_print.specs.declared.reply.Reply.TheVariants as reply
+use Rattle.tta_report.specs.declared.reply.Reply.TheVariants as reply
 use Rattle.tta_code.specs.declared.code.Code.{Code}
 use Rattle.tta_prompt.specs.declared.error.PromptError.{PromptError}
 use Rattle.tta_prompt.specs.declared.error.PromptError.TheVariants.{LinesFailed, TooLong, NoMemory, SinkFailed}

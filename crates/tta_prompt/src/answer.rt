@@ -2,8 +2,8 @@
 
 ghost use Rattle.std.specs.Prelude.{◌≡◌, ◌+◌, ◌<◌, ◌≤◌, ◌^◌, length, option_map};
 ghost use Rattle.tta_ops.specs.Set.{stated};
-ghost use Rattle.tta_print.specs.Replies.{reply_text};
-ghost use Rattle.tta_print.specs.declared.reply.Reply.TheVariants as reply;
+ghost use Rattle.tta_report.specs.Replies.{reply_text};
+ghost use Rattle.tta_report.specs.declared.reply.Reply.TheVariants as reply;
 ghost use Rattle.tta_sim.specs.Held.{IsRunOf};
 ghost use Rattle.tta_debug.specs.Debugged.{Debugged, command};
 ghost use Rattle.tta_debug.specs.Sessions.{Follows, PutsLine};
@@ -17,7 +17,7 @@ use crate::text::text_of;
 use std::alloc::Global;
 use tta_debug::{Basis, NOT_THERE, Session, take_line};
 use tta_ports::{Failed, Sink};
-use tta_print::{Reply, put_reply};
+use tta_report::{Reply, put_reply};
 
 /// Puts a text.
 fn put_text<S: Sink>(sink: &mut S, text: &[u8]) -> Result<(), Failed>

@@ -11,8 +11,8 @@ use crate::PromptError;
 use crate::answer::answer_line;
 use std::alloc::Global;
 use tta_debug::{Basis, Session};
-use tta_lines::{LineError, Lines};
 use tta_ports::Sink;
+use tta_stdin::{LineError, Lines};
 
 /// How many bytes all lines together may have, each with its newline: 16 MiB.
 const LIMIT: u64 = 16_777_216;

@@ -9,7 +9,7 @@ use Rattle.std.proofs.lemmas.Option.{slice_get_within, get_or_from_slice_get}
 use Rattle.tta_list.proofs.Tests.{and_left, and_right}
 use Rattle.tta_list.proofs.Lists.{all_one}
 use Rattle.tta_roundtrip.specs.Cited.{Units, named, OpId, Src, Rel, Step, Copy, Apply, Load, Store, Put, Take, If, Goto, When, Invoke, Return, Halt, End, Proc, DataLine, Program, IsProc, is_call, is_src, is_step, is_over, has_test, test_name, Operand, Form, LabelForm, ApplyForm, CallForm, lacks_op, has_wrong_arity, has_many_args, arity_of, asked_op, is_fit, is_target}
-use Rattle.tta_printed.specs.Printed.{label_name, proc_name, op_name, var_name}
+use Rattle.tta_pretty.specs.Printed.{label_name, proc_name, op_name, var_name}
 use Rattle.tta_roundtrip.proofs.Forms.{said, all_said}
 use Rattle.tta_roundtrip.proofs.Said.{step_said, steps_form, procs_form, data_form, numbered_from, numbered_append}
 use Rattle.tta_roundtrip.proofs.Operations.{IsOperation, operation_of}

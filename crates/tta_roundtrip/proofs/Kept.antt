@@ -14,7 +14,7 @@ use Rattle.tta_ifconv.proofs.Lists.{stands_within, one_from_any}
 use Rattle.tta_ifconv.proofs.Places.{target_stays, place_once, place_least, triangle_stays}
 use Rattle.tta_ifconv.proofs.Origins.{Kind, Joined, Renumbered, kind_of, origin_of}
 use Rattle.tta_ifconv.proofs.Listed.{piece, pieces, steps_listed}
-use Rattle.tta_printed.specs.Printed.{Words, Label, lines_printed, data_lines, proc_lines, step_lines, label_before, label_name, step_line}
+use Rattle.tta_pretty.specs.Printed.{Words, Label, lines_printed, data_lines, proc_lines, step_lines, label_before, label_name, step_line}
 use Rattle.tta_roundtrip.specs.Readable.{in_src, mentions, are_in_order, is_in_order, is_named}
 use Rattle.tta_roundtrip.specs.Statement.{ConvertedIsReadable}
 

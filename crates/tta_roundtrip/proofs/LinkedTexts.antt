@@ -11,7 +11,7 @@ use Rattle.tta_roundtrip.specs.Cited.{is_name, Declared, named_in, refuse_if, at
 use Rattle.tta_reading.specs.Steps.{◌>>=◌}
 use Rattle.tta_reading.proofs.Steps.{same_ok, refuse_if-ok, then-ok, some-ok, at_line-ok}
 use Rattle.tta_program.specs.declared.step.Step.TheVariants as step
-use Rattle.tta_printed.specs.Printed.{op_name}
+use Rattle.tta_pretty.specs.Printed.{op_name}
 use Rattle.tta_roundtrip.specs.Readable.{is_named}
 use Rattle.tta_roundtrip.proofs.Names.{bytes_same}
 use Rattle.tta_roundtrip.proofs.InOrder.{HasOperands}

@@ -5,7 +5,7 @@ use Rattle.std.specs.List.{AllByRecursion}
 use Rattle.tta_roundtrip.specs.Cited.{Units, Step, Copy, Apply, Load, Store, Put, Take, If, Goto, When, Invoke, Return, Halt, End, Proc, DataLine, ends_once, Form, ProcForm, DataForm, LabelForm, is_end, Said, proc_in, datum_in, are_nested, Block, up_to_end, blocks, data_said, is_target}
 use Rattle.tta_program.specs.Rules.{is_end as is_end_step}
 use Rattle.tta_ifconv.proofs.Kept.{skip_first}
-use Rattle.tta_printed.specs.Printed.{var_names, label_name, proc_name}
+use Rattle.tta_pretty.specs.Printed.{var_names, label_name, proc_name}
 use Rattle.tta_roundtrip.proofs.Said.{step_said, label_said, steps_form, procs_form, data_form, numbered_from, numbered_append}
 
 -- a form that stands in a procedure

@@ -8,7 +8,7 @@ use Rattle.tta_list.proofs.Tests.{and_left, and_right}
 use Rattle.tta_list.proofs.Lists.{list_all_one}
 use Rattle.tta_roundtrip.specs.Cited.{is_reserved, Units, OpId, Src, Var, Word, Apply, is_over, is_zero}
 use Rattle.tta_ifconv.proofs.Lists.{stands_within}
-use Rattle.tta_printed.specs.Printed.{word, op_name, operand_words, step_line}
+use Rattle.tta_pretty.specs.Printed.{word, op_name, operand_words, step_line}
 use Rattle.tta_roundtrip.proofs.Forms.{IsShort, Reads, assign_read, one_read, two_read}
 use Rattle.tta_roundtrip.proofs.Said.{step_said}
 

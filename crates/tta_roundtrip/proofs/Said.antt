@@ -4,7 +4,7 @@ use Rattle.std.specs.Prelude.{Some, None, if◌then◌else◌, is_some, option_m
 use Rattle.std.specs.List.{list_all}
 use Rattle.std.proofs.lemmas.Bool.{and_from}
 use Rattle.tta_roundtrip.specs.Cited.{Line, Units, Step, Copy, Apply, Load, Store, Put, Take, If, Goto, When, Invoke, Return, Halt, End, Proc, DataLine, Program, Form, ProcForm, DataForm, LabelForm, CopyForm, ApplyForm, LoadForm, StoreForm, PutForm, TakeForm, IfForm, GotoForm, WhenForm, CallForm, ReturnForm, HaltForm, EndForm, form_of, Said, said_from, is_line, is_target}
-use Rattle.tta_printed.specs.Printed.{Printed, var_name, label_name, proc_name, op_name, var_names}
+use Rattle.tta_pretty.specs.Printed.{Printed, var_name, label_name, proc_name, op_name, var_names}
 use Rattle.tta_roundtrip.proofs.ScannedLines.{words_of}
 use Rattle.tta_roundtrip.proofs.Forms.{said, all_said, Reads}
 

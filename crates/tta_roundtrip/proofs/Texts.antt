@@ -8,7 +8,7 @@ use Rattle.tta_roundtrip.specs.Cited.{lines_of, Units, Proc, DataLine, Draft, nu
 use Rattle.tta_reading.specs.Steps.{◌>>=◌}
 use Rattle.tta_reading.proofs.Steps.{same_ok, then-ok}
 use Rattle.tta_tac.proofs.Described.{program_said}
-use Rattle.tta_printed.specs.Printed.{data_lines, proc_lines, step_lines}
+use Rattle.tta_pretty.specs.Printed.{data_lines, proc_lines, step_lines}
 use Rattle.tta_roundtrip.specs.Readable.{is_named}
 use Rattle.tta_roundtrip.specs.Statement.{TextsAreReadable}
 use Rattle.tta_roundtrip.proofs.Nesting.{is_inner}

@@ -9,7 +9,7 @@ use Rattle.std.proofs.lemmas.Option.{slice_get_within, get_or_from_slice_get}
 use Rattle.tta_list.proofs.Tests.{and_left, and_right}
 use Rattle.tta_roundtrip.specs.Cited.{Declared, named_in, Units, named, first_at, AreDistinct, OpId, Src, Var, Word, Step, Copy, Apply, Load, Store, Put, Take, If, Goto, When, Invoke, Return, Halt, End, is_over, Form, LabelForm, Unlinked, Plain, IfTo, GotoTo, CallTo, var_number, src_of, srcs_of, vars_after, op_id, apply_step, step_of, has_twice, Said, label_in, vars_said, labels_said, steps_said, label_names, is_target}
 use Rattle.tta_tac.specs.Grammar.{step_lines}
-use Rattle.tta_printed.specs.Printed.{var_name, label_name, proc_name, op_name}
+use Rattle.tta_pretty.specs.Printed.{var_name, label_name, proc_name, op_name}
 use Rattle.tta_roundtrip.specs.Readable.{in_src, mentions, are_in_order}
 use Rattle.tta_roundtrip.proofs.Names.{bytes_apart, labels_apart}
 use Rattle.tta_roundtrip.proofs.Forms.{said, all_said}

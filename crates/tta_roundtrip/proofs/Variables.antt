@@ -7,7 +7,7 @@ use Rattle.std.proofs.lemmas.Bool.{eqb-true, eq-eqb, leb-true, cases_lt, and_fro
 use Rattle.std.proofs.lemmas.Option.{get_or_from_slice_get}
 use Rattle.tta_list.proofs.Tests.{and_left, and_right}
 use Rattle.tta_roundtrip.specs.Cited.{Declared, named_in, Units, Src, Var, Word, Step, Copy, Apply, Load, Store, Put, Take, If, Goto, When, Invoke, Return, Halt, End, is_over, numbered, with_var, with_operand, with_operands, vars_after}
-use Rattle.tta_printed.specs.Printed.{var_name, var_names}
+use Rattle.tta_pretty.specs.Printed.{var_name, var_names}
 use Rattle.tta_roundtrip.specs.Readable.{in_src, mentions, are_in_order}
 use Rattle.tta_roundtrip.proofs.Names.{vars_apart}
 use Rattle.tta_roundtrip.proofs.Forms.{said, all_said}

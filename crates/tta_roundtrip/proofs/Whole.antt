@@ -10,7 +10,7 @@ use Rattle.tta_roundtrip.specs.Cited.{AllPairs, lines_of, named_in, Units, Proc,
 use Rattle.tta_list.proofs.Tests.{and_left, and_right}
 use Rattle.tta_list.proofs.Lists.{all_weaker}
 use Rattle.tta_tac.proofs.Described.{said_program}
-use Rattle.tta_printed.specs.Printed.{printed, lines_printed, proc_name, var_names}
+use Rattle.tta_pretty.specs.Printed.{printed, lines_printed, proc_name, var_names}
 use Rattle.tta_roundtrip.specs.Readable.{IsReadable, is_in_order}
 use Rattle.tta_roundtrip.specs.Statement.{IsSameProc, ReadsBack, PrintedIsRead}
 use Rattle.tta_roundtrip.proofs.Names.{main_named}

@@ -2,7 +2,7 @@
 use Rattle.std.specs.Prelude.{◌≡◌, ◌≤◌, ℕ, suc, ◌==◌, Bool, true, ◌&&◌, nat_le, if◌then◌else◌, List, [], ◌∷◌, ◌++◌, length, Some, None}
 use Rattle.std.specs.List.{list_all, flat_map}
 use Rattle.tta_roundtrip.specs.Cited.{is_name, Units, Src, Var, Word, Step, Copy, Apply, Load, Store, Put, Take, If, Goto, When, Invoke, Return, Halt, End, Proc, Program}
-use Rattle.tta_printed.specs.Printed.{op_name, lines_printed}
+use Rattle.tta_pretty.specs.Printed.{op_name, lines_printed}
 
 -- ---- the order of variables
 

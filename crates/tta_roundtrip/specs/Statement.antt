@@ -1,7 +1,7 @@
 -- A printed text is read to the printed program, but for its line numbers.
 use Rattle.std.specs.Prelude.{◌≡◌, ℕ, List}
 use Rattle.tta_roundtrip.specs.Cited.{AllPairs, Units, Proc, Program, data_of, IsProgram, StandsOver, ProgramText, Converted}
-use Rattle.tta_printed.specs.Printed.{printed}
+use Rattle.tta_pretty.specs.Printed.{printed}
 use Rattle.tta_roundtrip.specs.Readable.{IsReadable}
 
 -- two procedures that differ in the lines of their steps alone

@@ -13,7 +13,7 @@ use crate::put::put_run;
 use crate::run::Run;
 use tta_ops::UnitSet;
 use tta_ports::{Failed, Sink};
-use tta_print::put_report;
+use tta_report::put_report;
 
 /// How a run stands, where it waits or does not.
 fn ended_of<R: Run>(run: &R, waits: bool) -> Ended

@@ -3,7 +3,7 @@
 use crate::ended::Ended;
 use crate::went::Went;
 use tta_ops::UnitSet;
-use tta_print::Line;
+use tta_report::Line;
 
 /// What makes moves one by one, takes words of an input, and outputs words.
 pub trait Run {

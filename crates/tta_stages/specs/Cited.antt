@@ -53,7 +53,7 @@ pub use Rattle.tta_ops.specs.Set.{stated}
 pub use Rattle.tta_ops.specs.Units.{Units}
 pub use Rattle.tta_ops.specs.declared.OpId.{OpId}
 pub use Rattle.tta_optim.specs.declared.together.Passed.{Passed}
-pub use Rattle.tta_printed.specs.Printed.{Words, line_text, proc_name, rel_name, step_line}
+pub use Rattle.tta_pretty.specs.Printed.{Words, line_text, proc_name, rel_name, step_line}
 pub use Rattle.tta_program.specs.Program.{Program}
 pub use Rattle.tta_program.specs.declared.operand.Rel.{Rel}
 pub use Rattle.tta_program.specs.declared.program.Proc.{Proc}

@@ -2,7 +2,7 @@
 use Rattle.std.proofs.Common.{◌≡◌, ◌⊎◌, ℕ, List, Result, Ok, Err, sym, subst, inl, inr}
 use Rattle.tta_tool.specs.Cited.{World, IsUntouched, Units, Program, Whole, Image, ProgramText, Converted, printed, IsBuiltConverted, MachineFile, Status, IsTaken, MadeEnds, no_memory, WritesMade, WritingEnds}
 use Rattle.tta_ports.proofs.Worlds.{same_world}
-use Rattle.tta_given.proofs.Endings.{writing_ends}
+use Rattle.tta_load.proofs.Endings.{writing_ends}
 use Rattle.tta_tool.specs.Ifconv.{IsConvertedText, WritesConverted}
 use Rattle.tta_tool.specs.BuildConverted.{IsConvertedImageOf, IsConvertedCauseOf}
 

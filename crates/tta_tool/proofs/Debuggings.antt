@@ -2,7 +2,7 @@
 use Rattle.std.proofs.Common.{◌≡◌, ◌⊎◌, ℕ, false, List, Option, subst, inr}
 use Rattle.tta_tool.specs.Cited.{World, Output, IsPut, Units, Machine, Whole, Fault, is_fault, Debugged, Session', Follows, Status, WasRead, IsTaken, ReadFails, Fills, StreamFails, ReadsStream}
 use Rattle.tta_ports.proofs.Worlds.{same_world}
-use Rattle.tta_given.specs.declared.status.Status.TheVariants as status
+use Rattle.tta_load.specs.declared.status.Status.TheVariants as status
 use Rattle.tta_tool.specs.Debug.{HasBytes, ReadsScript, AskedFails, ReadsAsked, AskedRuns, said, EndsAs, SessionEnds}
 
 -- ---- what a session is asked

@@ -7,7 +7,7 @@ use Rattle.tta_code.specs.Cycle as cycle
 use Rattle.tta_agree.proofs.Words.{none_words}
 use Rattle.tta_tacrun.specs.Run as sequential
 use Rattle.tta_sim.specs.Held as simulated
-use Rattle.tta_given.specs.declared.status.Status.TheVariants as status
+use Rattle.tta_load.specs.declared.status.Status.TheVariants as status
 use Rattle.tta_tool.specs.Steps as steps
 use Rattle.tta_tool.specs.Cycles as cycles
 use Rattle.tta_tool.specs.Sample.{zeros, program_after, code_after, summary, HasRun, HasCycled, StandAlike, CompareEnds}

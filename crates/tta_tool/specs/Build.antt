@@ -2,7 +2,7 @@
 use Rattle.std.specs.Prelude.{ℕ, List}
 use Rattle.tta_tool.specs.Cited.{World, Units, Machine, Program, Whole, Image, IsBuilt, HasCause, MachineFile, Status, IsProgramFor, RefusesProgramFor, Writes}
 use Rattle.tta_build.specs.declared.error.BuildError.TheVariants as cause
-use Rattle.tta_given.specs.declared.status.Status.TheVariants as status
+use Rattle.tta_load.specs.declared.status.Status.TheVariants as status
 
 -- Bytes are the image of code with data that was built for a machine and a program: it does what the program does, from every
 -- memory, for every input and for every bound. It carries the digest of the machine's text.

@@ -1,7 +1,7 @@
 -- What the command `check` does, and why it does not.
 use Rattle.std.specs.Prelude.{◌≡◌, ℕ, List, codes}
 use Rattle.tta_tool.specs.Cited.{World, Output, Units, Whole, IsSafe, IsUnsafe, NeverFaults, MachineFile, Status, IsImageFor, RefusesImage, Puts}
-use Rattle.tta_given.specs.declared.status.Status.TheVariants as status
+use Rattle.tta_load.specs.declared.status.Status.TheVariants as status
 
 -- no walk of the code has a code and no two disagree; so no run of it faults
 pub record CannotFault (file : MachineFile) (whole : Whole) : Type 0 where

@@ -14,34 +14,34 @@ pub use Rattle.tta_code.specs.declared.code.Code.{Code}
 pub use Rattle.tta_code.specs.declared.code.Instruction.{Instruction}
 pub use Rattle.tta_debug.specs.Debugged.{Debugged}
 pub use Rattle.tta_debug.specs.Sessions.{Follows, Session'}
-pub use Rattle.tta_given.specs.Assemblies.{IsAssemblyFor, RefusesAssembly}
-pub use Rattle.tta_given.specs.Ends.{IsUsage, PutEnds, Puts, Writes, WritesMade, WritingEnds}
-pub use Rattle.tta_given.specs.Held.{FileFails, IsHeld, IsTaken, MadeEnds, ReadFails, WasRead, limit, no_memory}
-pub use Rattle.tta_given.specs.Images.{IsImageFor, RefusesImage}
-pub use Rattle.tta_given.specs.Inputs.{Fills, HasInput, HasStream, IsStream, ReadsGiven, ReadsStream, RefusesInput, StreamFails}
-pub use Rattle.tta_given.specs.Machines.{HasMachine, MachineFails}
-pub use Rattle.tta_given.specs.Pairs.{HasPair, PairFails}
-pub use Rattle.tta_given.specs.Programs.{IsProgramFor, IsProgramIn, RefusesProgram, RefusesProgramFor}
-pub use Rattle.tta_given.specs.Runs.{PairRuns, bound_of}
-pub use Rattle.tta_given.specs.Sources.{RefusesSource}
-pub use Rattle.tta_given.specs.declared.machine.MachineFile.{MachineFile}
-pub use Rattle.tta_given.specs.declared.pair.CodePair.{CodePair}
-pub use Rattle.tta_given.specs.declared.status.Status.{Status}
+pub use Rattle.tta_load.specs.Assemblies.{IsAssemblyFor, RefusesAssembly}
+pub use Rattle.tta_load.specs.Ends.{IsUsage, PutEnds, Puts, Writes, WritesMade, WritingEnds}
+pub use Rattle.tta_load.specs.Held.{FileFails, IsHeld, IsTaken, MadeEnds, ReadFails, WasRead, limit, no_memory}
+pub use Rattle.tta_load.specs.Images.{IsImageFor, RefusesImage}
+pub use Rattle.tta_load.specs.Inputs.{Fills, HasInput, HasStream, IsStream, ReadsGiven, ReadsStream, RefusesInput, StreamFails}
+pub use Rattle.tta_load.specs.Machines.{HasMachine, MachineFails}
+pub use Rattle.tta_load.specs.Pairs.{HasPair, PairFails}
+pub use Rattle.tta_load.specs.Programs.{IsProgramFor, IsProgramIn, RefusesProgram, RefusesProgramFor}
+pub use Rattle.tta_load.specs.Runs.{PairRuns, bound_of}
+pub use Rattle.tta_load.specs.Sources.{RefusesSource}
+pub use Rattle.tta_load.specs.declared.machine.MachineFile.{MachineFile}
+pub use Rattle.tta_load.specs.declared.pair.CodePair.{CodePair}
+pub use Rattle.tta_load.specs.declared.status.Status.{Status}
 pub use Rattle.tta_ifconv.specs.Converted.{Converted}
 pub use Rattle.tta_image.specs.Image.{Image}
 pub use Rattle.tta_list.specs.Iterate.{iterate}
 pub use Rattle.tta_list.specs.Laid.{over}
-pub use Rattle.tta_network.specs.Net.{Nets}
-pub use Rattle.tta_network.specs.Request.{is_net, rounds_of}
+pub use Rattle.tta_net_command.specs.Net.{Nets}
+pub use Rattle.tta_net_command.specs.Request.{is_net, rounds_of}
 pub use Rattle.tta_ops.specs.Set.{stated}
 pub use Rattle.tta_ops.specs.Units.{Units}
 pub use Rattle.tta_ports.specs.Files.{Holds}
 pub use Rattle.tta_ports.specs.Output.{IsCut, IsPut, IsQuiet, Output}
 pub use Rattle.tta_ports.specs.Store.{Store}
 pub use Rattle.tta_ports.specs.World.{IsUntouched, World}
-pub use Rattle.tta_print.specs.Lines.{lines_text, word_lines}
-pub use Rattle.tta_print.specs.declared.line.Line.{Line}
-unfoldable pub use Rattle.tta_printed.specs.Printed.{printed}
+pub use Rattle.tta_report.specs.Lines.{lines_text, word_lines}
+pub use Rattle.tta_report.specs.declared.line.Line.{Line}
+unfoldable pub use Rattle.tta_pretty.specs.Printed.{printed}
 pub use Rattle.tta_program.specs.Program.{Program, data_of, step_count}
 pub use Rattle.tta_program.specs.Sequential.{Frame, assigns, go_on, goes_through, goes_to, holds, operand, step_at, take_value}
 pub use Rattle.tta_program.specs.declared.program.Proc.{Proc}

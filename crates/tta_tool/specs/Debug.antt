@@ -4,7 +4,7 @@ use Rattle.tta_tool.specs.Cited.{Store, Holds, World, IsUntouched, Output, IsQui
 use Rattle.tta_code.specs.Cycle.{Outcome}
 use Rattle.tta_debug.specs.Debugged.{session as replies_of}
 use Rattle.tta_debug.specs.Scripts.{lines_of}
-use Rattle.tta_given.specs.declared.status.Status.TheVariants as status
+use Rattle.tta_load.specs.declared.status.Status.TheVariants as status
 
 -- ---- what was read
 

@@ -1,7 +1,7 @@
 -- What the command `ifconv` does, and why it does not.
 use Rattle.std.specs.Prelude.{◌≡◌, ◌⊎◌, ℕ, List}
 use Rattle.tta_tool.specs.Cited.{World, IsUntouched, Units, Program, ProgramText, Converted, printed, Status, FileFails, no_memory, RefusesSource, WritingEnds}
-use Rattle.tta_given.specs.Held.{Held}
+use Rattle.tta_load.specs.Held.{Held}
 
 -- bytes are the printed text of the program that a program is converted to
 pub record IsConvertedText (u : Units) (p : Program) (bytes : List ℕ) : Type 0 where

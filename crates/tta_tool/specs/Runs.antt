@@ -2,7 +2,7 @@
 use Rattle.std.specs.Prelude.{◌≡◌, ℕ, List}
 use Rattle.tta_tool.specs.Cited.{Output, IsQuiet, IsPut, IsCut, Ended, Status}
 use Rattle.tta_run.specs.declared.ended.Ended.TheVariants as ended
-use Rattle.tta_given.specs.declared.status.Status.TheVariants as status
+use Rattle.tta_load.specs.declared.status.Status.TheVariants as status
 
 -- a run stands so at its bound, and its text was put, or a prefix of it
 abbrev pub ReportEnds : (text : List ℕ) → Ended → (old new : Output) → Status → Type 0

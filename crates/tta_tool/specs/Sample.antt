@@ -1,12 +1,12 @@
 -- What the command `sample` does, and why it does not.
 use Rattle.std.specs.Prelude.{◌≡◌, ◌⊎◌, ℕ, ◌≤◌, ◌+◌, ◌*◌, Bool, true, List, [], ◌∷◌, length, replicate}
 use Rattle.tta_tool.specs.Cited.{World, IsUntouched, Output, IsQuiet, IsPut, IsCut, Line, lines_text, Units, Machine, Program, step_count, sample_text, Whole, program_at, code_at, HaltAlike, IsBuilt, Status, HasMachine, MachineFails, IsProgramIn, RefusesProgram}
-use Rattle.tta_print.specs.declared.line.Line.TheVariants as line
+use Rattle.tta_report.specs.declared.line.Line.TheVariants as line
 use Rattle.tta_program.specs.Sequential as program
 use Rattle.tta_code.specs.Cycle as cycle
 use Rattle.tta_tacrun.specs.Run as sequential
 use Rattle.tta_sim.specs.Held as simulated
-use Rattle.tta_given.specs.declared.status.Status.TheVariants as status
+use Rattle.tta_load.specs.declared.status.Status.TheVariants as status
 use Rattle.tta_tool.specs.Build.{IsCauseOf}
 use Rattle.tta_tool.specs.Steps as steps
 use Rattle.tta_tool.specs.Cycles as cycles

@@ -5,7 +5,7 @@ ghost use Rattle.tta_tool.specs.Asm.{Assembles};
 
 use crate::names::WriteRequest;
 use std::alloc::Global;
-use tta_given::{Status, assembly_pair, image_of_whole, write_made};
+use tta_load::{Status, assembly_pair, image_of_whole, write_made};
 use tta_ops::UnitSet;
 use tta_ports::Files;
 

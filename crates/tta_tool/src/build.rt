@@ -6,13 +6,13 @@ ghost use Rattle.tta_arch.specs.Over as machines;
 ghost use Rattle.tta_program.specs.Over as programs;
 ghost use Rattle.tta_program.specs.Program.{first_outside};
 ghost use Rattle.tta_build.specs.Statement.{HasCause};
-ghost use Rattle.tta_given.specs.Held.{MadeEnds};
+ghost use Rattle.tta_load.specs.Held.{MadeEnds};
 ghost use Rattle.tta_tool.specs.Build.{Builds, IsCauseOf, IsImageOf};
 
 use crate::names::WriteRequest;
 use std::alloc::Global;
 use tta_build::{BuildError, build};
-use tta_given::{ProgramPair, Status, image_of_whole, program_pair, write_made};
+use tta_load::{ProgramPair, Status, image_of_whole, program_pair, write_made};
 use tta_machine::Machine;
 use tta_ops::UnitSet;
 use tta_ports::Files;

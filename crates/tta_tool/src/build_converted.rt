@@ -7,13 +7,13 @@ ghost use Rattle.tta_arch.specs.Over as machines;
 ghost use Rattle.tta_program.specs.Over as programs;
 ghost use Rattle.tta_program.specs.Program.{first_outside};
 ghost use Rattle.tta_build.specs.Converted.{HasConvertedCause};
-ghost use Rattle.tta_given.specs.Held.{MadeEnds};
+ghost use Rattle.tta_load.specs.Held.{MadeEnds};
 ghost use Rattle.tta_tool.specs.BuildConverted.{BuildsConverted, IsConvertedCauseOf, IsConvertedImageOf};
 
 use crate::names::WriteRequest;
 use std::alloc::Global;
 use tta_build::{BuildError, build_converted};
-use tta_given::{ProgramPair, Status, image_of_whole, program_pair, write_made};
+use tta_load::{ProgramPair, Status, image_of_whole, program_pair, write_made};
 use tta_machine::Machine;
 use tta_ops::UnitSet;
 use tta_ports::Files;

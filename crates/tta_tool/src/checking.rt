@@ -3,13 +3,13 @@
 ghost use Rattle.std.specs.Prelude.{◌≡◌, codes, IfOk};
 ghost use Rattle.tta_ops.specs.Set.{stated};
 ghost use Rattle.tta_code.specs.Legal.{IsLegalCode};
-ghost use Rattle.tta_given.specs.Held.{MadeEnds};
+ghost use Rattle.tta_load.specs.Held.{MadeEnds};
 ghost use Rattle.tta_tool.specs.Check.{IsCalledSafe, IsFound, ChecksCode};
 
 use crate::names::CheckRequest;
 use std::alloc::{AllocError, Global};
 use tta_check::{Verdict, check};
-use tta_given::{CodePair, Status, image_pair, put_made};
+use tta_load::{CodePair, Status, image_pair, put_made};
 use tta_ops::UnitSet;
 use tta_ports::{Files, Sink};
 

@@ -12,7 +12,7 @@ use std::alloc::{AllocError, Global};
 use tta_arch::Machine;
 use tta_code::{Code, Whole, lay};
 use tta_ops::UnitSet;
-use tta_print::Line;
+use tta_report::Line;
 use tta_run::{Ended, Run, Went};
 use tta_sim::{CycleStep, Ending, Sim};
 

@@ -18,8 +18,8 @@ use crate::request::Request;
 use crate::running::run_image;
 use crate::sampling::sample_on;
 use std::alloc::Global;
-use tta_given::Status;
-use tta_network::run_net;
+use tta_load::Status;
+use tta_net_command::run_net;
 use tta_ops::UnitSet;
 use tta_ports::{Files, Sink};
 

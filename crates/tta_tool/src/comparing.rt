@@ -2,13 +2,13 @@
 
 ghost use Rattle.std.specs.Prelude.{◌≡◌, ℕ, ◌<◌, ◌≤◌, ◌^◌, true, false, length, IfOk};
 ghost use Rattle.tta_ops.specs.Set.{stated};
-ghost use Rattle.tta_print.specs.Lines.{lines_text};
+ghost use Rattle.tta_report.specs.Lines.{lines_text};
 ghost use Rattle.tta_program.specs.Program.{step_count};
 ghost use Rattle.tta_program.specs.Sequential as sequential;
 ghost use Rattle.tta_code.specs.Cycle as cycles;
 ghost use Rattle.tta_code.specs.Legal.{IsLegalCode};
 ghost use Rattle.tta_build.specs.Statement.{IsBuilt};
-ghost use Rattle.tta_given.specs.Ends.{PutEnds};
+ghost use Rattle.tta_load.specs.Ends.{PutEnds};
 ghost use Rattle.tta_tool.specs.Sample.{zeros, summary, HasRun, HasCycled, StandAlike};
 ghost use Rattle.tta_tool.specs.Sample.{CompareEnds};
 
@@ -16,11 +16,11 @@ use crate::code_run::{CodeRun, load_code};
 use crate::program_run::{ProgramRun, load_program};
 use std::alloc::{AllocError, Global};
 use tta_code::Whole;
-use tta_given::{Status, data_words};
+use tta_load::{Status, data_words};
 use tta_machine::Machine;
 use tta_ops::UnitSet;
 use tta_ports::{Failed, Sink};
-use tta_print::{Line, put_lines};
+use tta_report::{Line, put_lines};
 use tta_run::{Kept, keep_run};
 use tta_sim::Sim;
 use tta_tac::Program;

@@ -15,7 +15,7 @@ use crate::names::SessionRequest;
 use std::alloc::Global;
 use tta_code::Code;
 use tta_debug::{Session, run_script};
-use tta_given::{CodePair, Status, data_words, image_pair, input_file, read_file, stream_file};
+use tta_load::{CodePair, Status, data_words, image_pair, input_file, read_file, stream_file};
 use tta_machine::Machine;
 use tta_ops::UnitSet;
 use tta_ports::{Failed, Files, Sink};

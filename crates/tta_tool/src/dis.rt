@@ -3,13 +3,13 @@
 ghost use Rattle.std.specs.Prelude.{◌≡◌};
 ghost use Rattle.tta_ops.specs.Set.{stated};
 ghost use Rattle.tta_disasm.specs.Canonical.{canonical};
-ghost use Rattle.tta_given.specs.Held.{MadeEnds, no_memory};
+ghost use Rattle.tta_load.specs.Held.{MadeEnds, no_memory};
 ghost use Rattle.tta_tool.specs.Dis.{Shows};
 
 use crate::names::WriteRequest;
 use std::alloc::Global;
 use tta_disasm::disassemble;
-use tta_given::{CodePair, Status, image_pair, write_made};
+use tta_load::{CodePair, Status, image_pair, write_made};
 use tta_ops::UnitSet;
 use tta_ports::Files;
 

@@ -2,14 +2,14 @@
 
 ghost use Rattle.std.specs.Prelude.{◌<◌, ◌^◌, length, option_map};
 ghost use Rattle.tta_ops.specs.Set.{stated};
-ghost use Rattle.tta_given.specs.Runs.{GivenRuns};
+ghost use Rattle.tta_load.specs.Runs.{GivenRuns};
 ghost use Rattle.tta_tool.specs.Exec.{Reports, Execs};
 
 use crate::names::RunRequest;
 use crate::program_run::{ProgramRun, load_program};
 use crate::report::run_to_status;
 use std::alloc::Global;
-use tta_given::{Given, ProgramPair, Status, data_words, given_files, program_pair};
+use tta_load::{Given, ProgramPair, Status, data_words, given_files, program_pair};
 use tta_ops::UnitSet;
 use tta_ports::{Files, Sink};
 

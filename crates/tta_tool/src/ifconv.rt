@@ -3,17 +3,17 @@
 ghost use Rattle.std.specs.Prelude.{◌≡◌};
 ghost use Rattle.tta_ops.specs.Set.{stated};
 ghost use Rattle.tta_program.specs.Over.{StandsOver};
-ghost use Rattle.tta_printed.specs.Printed.{printed};
-ghost use Rattle.tta_given.specs.Held.{MadeEnds, no_memory};
+ghost use Rattle.tta_pretty.specs.Printed.{printed};
+ghost use Rattle.tta_load.specs.Held.{MadeEnds, no_memory};
 ghost use Rattle.tta_tool.specs.Ifconv.{IsConvertedText, WritesConverted};
 
 use crate::names::ConvertRequest;
 use std::alloc::Global;
-use tta_given::{Status, source_file, write_made};
 use tta_ifconv::convert;
+use tta_load::{Status, source_file, write_made};
 use tta_ops::UnitSet;
 use tta_ports::Files;
-use tta_printed::print_program;
+use tta_pretty::print_program;
 use tta_tac::Program;
 
 /// The printed text of a program.

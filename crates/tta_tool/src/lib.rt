@@ -21,4 +21,4 @@ mod running;
 mod sampling;
 
 pub use command::tool;
-pub use tta_given::Status;
+pub use tta_load::Status;

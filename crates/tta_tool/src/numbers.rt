@@ -3,7 +3,7 @@
 ghost use Rattle.std.specs.Prelude.{◌≡◌, ◌≤◌, IfSome};
 ghost use Rattle.tta_tool.specs.Numbers as spec;
 
-use tta_given::digits_of;
+use tta_load::digits_of;
 
 /// Seeds are below this.
 const SEEDS: u64 = 1 << 32;

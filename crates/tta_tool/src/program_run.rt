@@ -9,8 +9,8 @@ ghost use Rattle.tta_tool.specs.Steps.{ended_of};
 
 use std::alloc::{AllocError, Global};
 use tta_ops::UnitSet;
-use tta_print::Line;
 use tta_program::{Program, lay_lines};
+use tta_report::Line;
 use tta_run::{Ended, Run, Went};
 use tta_tacrun::{Seq, SeqStep};
 

@@ -6,7 +6,7 @@ ghost use Rattle.tta_run.specs.Loops.{after_moves};
 ghost use Rattle.tta_run.specs.Reports.{report_text};
 ghost use Rattle.tta_tool.specs.Runs.{ReportEnds};
 
-use tta_given::Status;
+use tta_load::Status;
 use tta_ops::UnitSet;
 use tta_ports::{Failed, Sink};
 use tta_run::{Ended, Run, report_run};

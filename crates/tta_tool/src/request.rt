@@ -12,8 +12,8 @@ use crate::names::{
     CheckRequest, ConvertRequest, RunFiles, RunRequest, SampleRequest, SessionRequest, WriteRequest,
 };
 use crate::numbers::{lines_of, seed_of};
-use tta_given::bound_of;
-use tta_network::{NetRequest, is_net, rounds_of};
+use tta_load::bound_of;
+use tta_net_command::{NetRequest, is_net, rounds_of};
 
 /// What is asked for.
 #[derive(Clone, Copy)]

@@ -8,11 +8,11 @@ use std::env;
 use std::io::ErrorKind;
 use std::process::ExitCode;
 use std::rt::Env;
-use tta_designer::show;
-use tta_given::Status;
-use tta_lines::{Lines, RealLines};
+use tta_inspect::show;
+use tta_load::Status;
 use tta_ops::{Arith, Compare, Divide, Logic, OpUnit, Shift, UnitSet};
 use tta_ports::{Files, RealFiles, RealSink, Sink};
+use tta_stdin::{Lines, RealLines};
 
 /// The words after the program's name. A word that is not UTF-8 makes no command.
 fn words_of(rt: &(impl Env + AllocGlobal)) -> Result<Vec<String>, Status> {

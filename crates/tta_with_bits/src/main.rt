@@ -9,11 +9,11 @@ use std::io::ErrorKind;
 use std::process::ExitCode;
 use std::rt::Env;
 use tta_bits::Bits;
-use tta_designer::{is_named, show};
-use tta_given::Status;
-use tta_lines::{Lines, RealLines};
+use tta_inspect::{is_named, show};
+use tta_load::Status;
 use tta_ops::{Arith, Compare, Divide, Logic, OpUnit, OpsError, Shift, UnitSet};
 use tta_ports::{Files, RealFiles, RealSink, Sink};
+use tta_stdin::{Lines, RealLines};
 use tta_tool::tool;
 
 /// The words after the program's name. A word that is not UTF-8 makes no command.

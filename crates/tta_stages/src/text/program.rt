@@ -16,7 +16,7 @@ use crate::text::words::{push_count, push_proc, push_var_if};
 use std::alloc::AllocError;
 use tta_flow::{Block, Live};
 use tta_ops::UnitSet;
-use tta_printed::push_step;
+use tta_pretty::push_step;
 use tta_program::{Proc, Program, Step};
 
 /// The line at a place of a list, 0 past the last.

@@ -2,7 +2,7 @@
 
 ghost use Rattle.std.specs.Prelude.{◌≡◌, ◌++◌, codes, OnOk};
 ghost use Rattle.tta_ops.specs.Set.{stated};
-ghost use Rattle.tta_printed.specs.Printed.{rel_name};
+ghost use Rattle.tta_pretty.specs.Printed.{rel_name};
 ghost use Rattle.tta_stages.specs.Words.{block_name, operand_text};
 ghost use Rattle.tta_stages.specs.StepText.{set_text, two_text, condition_text, copy_text};
 ghost use Rattle.tta_stages.specs.StepText.{apply_text, load_text, when_text, branch_text};

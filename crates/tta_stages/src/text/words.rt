@@ -1,7 +1,7 @@
 //! The words of the lines.
 
 ghost use Rattle.std.specs.Prelude.{◌≡◌, ◌++◌, codes, decimal, OnOk};
-ghost use Rattle.tta_printed.specs.Printed.{proc_name};
+ghost use Rattle.tta_pretty.specs.Printed.{proc_name};
 ghost use Rattle.tta_stages.specs.Words.{count_text, block_name, var_if, pair_text, pairs_text};
 ghost use Rattle.tta_stages.specs.Words.{home_text, kept_text, source_text, operand_text};
 

@@ -1,6 +1,6 @@
 use Rattle.std.proofs.Common.{◌+◌, ◌++◌, drop, ap, sym, ◌∙◌, subst, get_or}
 use Rattle.tta_arch.specs.declared.parts.Unit.{Unit as OpUnit}
-use Rattle.tta_print.proofs.Puts.{HasPut, put_more, put_part, part_is_put}
+use Rattle.tta_report.proofs.Puts.{HasPut, put_more, put_part, part_is_put}
 use Rattle.tta_debug.specs.Debugged.{texts, unit_lines, due_lines}
 use Rattle.tta_debug.proofs.Flying.{unit_first}
 use Rattle.tta_debug.proofs.flight.put_units.Goals as goal

@@ -1,6 +1,6 @@
 use Rattle.tta_tool.specs.Cited.{stated, IsProgramFor, RefusesProgramFor}
 use Rattle.tta_tool.specs.BuildConverted.{IsConvertedImageOf, IsConvertedCauseOf}
-use Rattle.tta_given.proofs.Endings.{writes}
+use Rattle.tta_load.proofs.Endings.{writes}
 use Rattle.tta_tool.proofs.build_converted.build_converted_image.Goals as goal
 
 pub returns-in-Ok : goal.returns-in-Ok

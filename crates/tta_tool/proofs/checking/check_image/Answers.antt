@@ -1,5 +1,5 @@
 use Rattle.tta_tool.specs.Cited.{stated, IsImageFor, RefusesImage}
-use Rattle.tta_given.proofs.Endings.{puts}
+use Rattle.tta_load.proofs.Endings.{puts}
 use Rattle.tta_tool.specs.Check.{IsCalledSafe, IsFound}
 use Rattle.tta_tool.proofs.checking.check_image.Goals as goal
 

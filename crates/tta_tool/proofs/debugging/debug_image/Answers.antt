@@ -1,6 +1,6 @@
 use Rattle.std.proofs.Common.{option_map, inr}
 use Rattle.tta_tool.specs.Cited.{stated, IsImageFor}
-use Rattle.tta_given.proofs.Endings.{pair_then}
+use Rattle.tta_load.proofs.Endings.{pair_then}
 use Rattle.tta_tool.specs.Debug.{AskedRuns}
 use Rattle.tta_tool.proofs.debugging.debug_image.Goals as goal
 

@@ -3,7 +3,7 @@ use Rattle.tta_tool.specs.Cited.{stated, Debugged, Follows}
 use Rattle.tta_sim.specs.Held.{Held}
 use Rattle.tta_debug.specs.Debugged.{session as replies_of}
 use Rattle.tta_debug.specs.Scripts.{lines_of}
-use Rattle.tta_given.specs.declared.status.Status.TheVariants as status
+use Rattle.tta_load.specs.declared.status.Status.TheVariants as status
 use Rattle.tta_tool.specs.Debug.{EndsAs, SessionEnds}
 use Rattle.tta_tool.proofs.Debuggings.{script_done}
 use Rattle.tta_tool.proofs.debugging.script_to_status.Goals as goal

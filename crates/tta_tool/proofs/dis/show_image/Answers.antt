@@ -1,6 +1,6 @@
 use Rattle.tta_tool.specs.Cited.{stated, no_memory, IsImageFor, RefusesImage}
 use Rattle.tta_tool.specs.Dis.{IsShown}
-use Rattle.tta_given.proofs.Endings.{writes}
+use Rattle.tta_load.proofs.Endings.{writes}
 use Rattle.tta_tool.proofs.dis.show_image.Goals as goal
 
 pub returns-in-Ok : goal.returns-in-Ok

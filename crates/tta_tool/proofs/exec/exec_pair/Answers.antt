@@ -1,7 +1,7 @@
 use Rattle.std.proofs.Common.{ℕ, option_map, subst}
 use Rattle.tta_tool.specs.Cited.{ReadsGiven, stated}
 use Rattle.tta_tool.specs.Exec.{Reports}
-use Rattle.tta_given.proofs.RunEndings.{given_runs}
+use Rattle.tta_load.proofs.RunEndings.{given_runs}
 use Rattle.tta_tool.proofs.exec.exec_pair.Goals as goal
 
 pub returns-in-Ok : goal.returns-in-Ok

@@ -1,7 +1,7 @@
 use Rattle.std.proofs.Common.{option_map}
 use Rattle.tta_tool.specs.Cited.{stated, IsProgramFor, RefusesProgramFor}
 use Rattle.tta_tool.specs.Exec.{Reports}
-use Rattle.tta_given.proofs.RunEndings.{pair_runs}
+use Rattle.tta_load.proofs.RunEndings.{pair_runs}
 use Rattle.tta_tool.proofs.exec.exec_program.Goals as goal
 
 pub returns-in-Ok : goal.returns-in-Ok

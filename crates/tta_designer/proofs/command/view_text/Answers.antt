@@ -1,4 +1,0 @@
-use Rattle.tta_designer.proofs.command.view_text.Goals as goal
-
-pub returns-in-Cost : goal.returns-in-Cost
-returns-in-Cost g c = rw c.in-Cost.is c.tell_cost.ensures

@@ -1,6 +1,0 @@
-use Rattle.std.proofs.Common.{ℕ}
-use Rattle.tta_designer.proofs.depths.+add_list.Given as goal
-
--- fewer numbers are left
-abbrev pub decreases-add_list : goal.decreases-add_list
-decreases-add_list l = l.count

@@ -1,6 +1,0 @@
-use Rattle.std.proofs.Common.{ℕ}
-use Rattle.tta_designer.proofs.depths.+exponent_from.Given as goal
-
--- fewer exponents are left
-abbrev pub decreases-exponent_from : goal.decreases-exponent_from
-decreases-exponent_from l = l.left

@@ -1,6 +1,0 @@
-use Rattle.tta_designer.specs.Costs.{IsCostText}
-use Rattle.tta_designer.proofs.TextsByStatus.{text_by_status}
-use Rattle.tta_designer.proofs.laws.cost_by_status.Goals as goal
-
-pub returns : goal.returns
-returns c = λ u M F before after old new s. text_by_status u (IsCostText u) M F before after old new s

@@ -1,5 +1,0 @@
-use Rattle.tta_endings.proofs.CircuitsTaken.{circuit_completes_holds}
-use Rattle.tta_endings.proofs.laws.circuit_completes.Goals as goal
-
-pub returns : goal.returns
-returns c = circuit_completes_holds

@@ -1,5 +1,0 @@
-use Rattle.tta_endings.proofs.ViewsTaken.{info_completes_holds}
-use Rattle.tta_endings.proofs.laws.info_completes.Goals as goal
-
-pub returns : goal.returns
-returns c = info_completes_holds

@@ -1,5 +1,0 @@
-use Rattle.tta_endings.proofs.ViewsTaken.{machine_view_completes_holds}
-use Rattle.tta_endings.proofs.laws.machine_view_completes.Goals as goal
-
-pub returns : goal.returns
-returns c = machine_view_completes_holds

@@ -1,5 +1,0 @@
-use Rattle.tta_endings.proofs.ViewsTaken.{prompt_completes_holds}
-use Rattle.tta_endings.proofs.laws.prompt_completes.Goals as goal
-
-pub returns : goal.returns
-returns c = prompt_completes_holds

@@ -1,5 +1,0 @@
-use Rattle.tta_endings.proofs.SamplesTaken.{sample_completes_without_room_holds}
-use Rattle.tta_endings.proofs.laws.sample_completes_without_room.Goals as goal
-
-pub returns : goal.returns
-returns c = sample_completes_without_room_holds

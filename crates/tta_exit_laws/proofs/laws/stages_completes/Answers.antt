@@ -1,0 +1,5 @@
+use Rattle.tta_exit_laws.proofs.ViewsTaken.{stages_completes_holds}
+use Rattle.tta_exit_laws.proofs.laws.stages_completes.Goals as goal
+
+pub returns : goal.returns
+returns c = stages_completes_holds

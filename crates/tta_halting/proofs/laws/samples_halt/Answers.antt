@@ -1,5 +1,0 @@
-use Rattle.tta_halting.proofs.Halting.{samples_halt_holds}
-use Rattle.tta_halting.proofs.laws.samples_halt.Goals as goal
-
-pub returns : goal.returns
-returns c = samples_halt_holds

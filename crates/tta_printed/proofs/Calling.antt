@@ -1,5 +1,0 @@
--- Lines that end with any number of words.
-use Rattle.tta_printed.proofs.Pushing.{spaced-cons}
-
--- a first word and those after it, for lines of any number of words
-pub ruleset call_lines = spaced-cons
