@@ -1,24 +1,22 @@
 //! The homes of the variables of a program.
 
-ghost use Rattle.std.specs.Prelude.{◌≡◌, ◌==◌, ◌&&◌, ◌||◌, ◌<◌, ℕ, nat_le, true, length, IfOk, OnOk};
-ghost use Rattle.std.specs.Prelude.{slice_get, List};
+ghost use Rattle.std.specs.Prelude.{◌≡◌, ℕ, List, slice_get, IfOk};
 ghost use Rattle.std.specs.Option.{option_map_or};
-ghost use Rattle.tta_flow.specs.Blocks.{IsFlow, Holds};
+ghost use Rattle.tta_flow.specs.Blocks.{IsFlow};
 ghost use Rattle.tta_flow.specs.Live.{IsLive};
-ghost use Rattle.tta_flow.specs.Table.{is_listed};
 ghost use Rattle.tta_alloc.specs.Homes.{IsScan, IsScanOf, count_of, home_of};
 ghost use Rattle.tta_alloc.specs.Allotted.{AreAllotted, ScansAllot};
 ghost use Rattle.tta_alloc.specs.Law.{KeepsLaw};
 ghost use Rattle.tta_alloc.specs.Turns.{AreInTurn, TurnsAllot};
 ghost use Rattle.tta_program.specs.declared.program.Proc.{Proc};
-ghost use Rattle.tta_alloc.specs.Ranges.{AddsRange};
 
 use crate::home::Home;
 use crate::scan::scan_homes;
+use crate::steps::steps_of;
 use crate::taken::taken_of;
 use crate::turns::turn_homes;
 use std::alloc::{AllocError, Global};
-use tta_flow::{Block, Flow, Live, PlaceLists};
+use tta_flow::{Flow, Live};
 use tta_program::Program;
 
 /// The homes of the variables of each procedure.
@@ -114,31 +112,6 @@ pub fn in_turn(
         procs: all,
         count: homes,
     })
-}
-
-/// For each procedure the steps that its blocks hold.
-fn steps_of(alloc: Global, blocks: &[Block], procs: usize) -> Result<PlaceLists, AllocError>
-    ensures size { IfOk result (λ t. length t.lists.items ≡ procs) }
-    ensures sound { IfOk result (λ t. (o i : ℕ) → o < procs
-        → is_listed t o i ≡ true → Holds blocks.now o i) }
-    ensures whole { IfOk result (λ t. (o i : ℕ) → o < procs
-        → Holds blocks.now o i → is_listed t o i ≡ true) }
-{
-    let mut table = PlaceLists::new(alloc, procs)?;
-    for block in blocks {
-        add_steps(&mut table, *block)?;
-    }
-    Ok(table)
-}
-
-/// Puts the steps of a block into the list of its procedure.
-fn add_steps(table: &mut PlaceLists, block: Block) -> Result<(), AllocError>
-    ensures { OnOk result (AddsRange block.owner block.first block.last table.old table.new) }
-{
-    for at in block.first as usize..block.last as usize + 1 {
-        table.add(block.owner as usize, at)?;
-    }
-    Ok(())
 }
 
 /// Every linear scan keeps variables apart, and has few slots.

@@ -1,6 +1,7 @@
-//! The intervals that take part in the scan of a procedure.
+//! The intervals of the variables of a procedure, and those that take part in its scan.
 
-ghost use Rattle.std.specs.Prelude.{◌≡◌, ◌++◌, ◌<◌, ℕ, IfOk, OnOk, option_to_list, IsPermutation};
+ghost use Rattle.std.specs.Prelude.{◌≡◌, ◌++◌, ◌<◌, ℕ, false, IfOk, OnOk, option_to_list, IsPermutation};
+ghost use Rattle.tta_alloc.specs.AllIntervals.{AreIntervalsOf};
 ghost use Rattle.tta_alloc.specs.Bodies.{IsKnown};
 ghost use Rattle.tta_alloc.specs.Intervals.{AreTaken};
 ghost use Rattle.tta_alloc.specs.Known.{Known};
@@ -60,6 +61,42 @@ fn add_all(row: &mut BitRow, places: &[usize])
     }
 }
 
+/// The interval of each variable of a procedure, none where no position counts for the variable. It
+/// fails only where there is no memory.
+pub fn intervals_of(
+    alloc: Global,
+    q: &Proc,
+    owner: u32,
+    reached: &[usize],
+    live: &Live,
+) -> Result<Vec<Option<Interval>>, AllocError>
+    requires { Known q.now owner reached.now live.now }
+    ensures { IfOk result (λ all. AreIntervalsOf q.now all.items) }
+{
+    let row = row_of(alloc, q.steps.len(), reached)?;
+    let body = Body {
+        q,
+        owner,
+        reached: &row,
+        live,
+    };
+    each(alloc, &body)
+}
+
+/// The interval of each variable, in the order of the variables.
+fn each(alloc: Global, body: &Body<'_>) -> Result<Vec<Option<Interval>>, AllocError>
+    requires { IsKnown body.now }
+    ensures { IfOk result (λ all. AreIntervalsOf body.now.q.now all.items) }
+{
+    let starts = firsts(alloc, body)?;
+    let ends = lasts(alloc, body)?;
+    let mut all = Vec::new(alloc);
+    for x in 0..body.q.vars {
+        all.push(interval_at(&starts, &ends, x))?;
+    }
+    Ok(all)
+}
+
 /// The intervals that take part, in the order of the variables.
 fn together(alloc: Global, body: &Body<'_>) -> Result<Vec<Interval>, AllocError>
     requires { IsKnown body.now }
@@ -82,6 +119,13 @@ fn candidate(kept: &BitRow, starts: &Met, ends: &Met, x: u32) -> Option<Interval
     if kept.get(x as usize) {
         return None;
     }
+    interval_at(starts, ends, x)
+}
+
+/// The interval of a variable, by its first position and its last.
+fn interval_at(starts: &Met, ends: &Met, x: u32) -> Option<Interval>
+    ensures { result ≡ interval_of false (met starts.now x) (met ends.now x) x }
+{
     match (starts.place(x), ends.place(x)) {
         (Some(start), Some(end)) => Some(Interval { start, var: x, end }),
         _ => None,

@@ -1,5 +1,4 @@
 pub mod Cited
-pub mod Intervals
 pub mod Stages
 pub mod Words
 pub mod StepText

@@ -5,7 +5,7 @@ use Rattle.std.specs.List.{flat_map, enumerate_from}
 use Rattle.tta_stages.specs.Cited.{Units, numbers, Machine, Step, Proc, Program, Block, Live, live_before, live_after, Home, Slot, Interval, home_of, Words, proc_name, line_text, step_line}
 use Rattle.tta_alloc.specs.declared.home.Home.TheVariants.{Reg}
 use Rattle.tta_stages.specs.declared.lowered.Lowered.{Lowered}
-use Rattle.tta_stages.specs.Intervals.{interval_of}
+use Rattle.tta_alloc.specs.AllIntervals.{interval_in}
 use Rattle.tta_stages.specs.Words.{count_text, var_if, home_text}
 
 -- ---- blocks
@@ -91,7 +91,7 @@ module _ (m : Machine) (homes : List (ℕ × ℕ)) where
     unfoldable pub variable_text : (owner first x : ℕ) → List ℕ
     variable_text owner first x =
         count_text (codes " v") x
-        ++ (codes " " ++ (home_or_slot (home_of r.homes owner x) (first + x) ++ (interval_text p owner (interval_of r.intervals owner x) ++ codes "\n")))
+        ++ (codes " " ++ (home_or_slot (home_of r.homes owner x) (first + x) ++ (interval_text p owner (interval_in r.intervals owner x) ++ codes "\n")))
 
     -- the variables of a procedure, of which the first has this slot
     unfoldable pub proc_variables_text : (owner vars first : ℕ) → List ℕ

@@ -2,9 +2,9 @@
 use Rattle.std.specs.Prelude.{◌≡◌, Vec}
 use Rattle.std.specs.Global.{Global}
 use Rattle.tta_stages.specs.Cited.{Units, Machine, Program, Part, first_by, parts, Compiled, IsCompiled, IsCodeFor}
-use Rattle.tta_stages.specs.declared.intervals.Intervals.{Intervals}
+use Rattle.tta_alloc.specs.declared.intervals.Intervals.{Intervals}
 use Rattle.tta_stages.specs.declared.stages.Stages.{Stages}
-use Rattle.tta_stages.specs.Intervals.{AreIntervals}
+use Rattle.tta_alloc.specs.AllIntervals.{AreIntervals}
 
 -- what the compiler makes of a program, with its intervals and parts
 abbrev pub staged : Compiled → Intervals → Vec Part Global → Stages

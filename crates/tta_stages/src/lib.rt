@@ -4,14 +4,11 @@
 //! code.
 #![tactic(auto)]
 
-mod body;
-mod intervals;
 mod lowered;
 mod stages;
 mod starts;
 mod text;
 
-pub use intervals::Intervals;
 pub use lowered::Lowered;
 pub use stages::{Stages, stages_of};
 pub use starts::block_starts;

@@ -6,9 +6,8 @@ ghost use Rattle.tta_flow.specs.Blocks.{IsFlow};
 ghost use Rattle.tta_lower.specs.Known.{first_by};
 ghost use Rattle.tta_lower.specs.Lower.{parts};
 
-use crate::intervals::Intervals;
 use std::alloc::{AllocError, Global};
-use tta_alloc::Homes;
+use tta_alloc::{Homes, Intervals};
 use tta_flow::{Flow, Live};
 use tta_lower::{Part, all_parts};
 use tta_program::Program;

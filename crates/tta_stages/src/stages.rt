@@ -8,9 +8,9 @@ ghost use Rattle.tta_build.specs.Lowered.{IsAnalysed};
 ghost use Rattle.tta_build.specs.Statement.{HasCause};
 ghost use Rattle.tta_stages.specs.Stages.{staged, AreToldOf, AreStages};
 
-use crate::intervals::Intervals;
 use crate::lowered::{Lowered, parts_of};
 use std::alloc::{AllocError, Global};
+use tta_alloc::Intervals;
 use tta_arch::Machine;
 use tta_build::{BuildError, Compiled, Planned, beside, compile};
 use tta_code::Code;

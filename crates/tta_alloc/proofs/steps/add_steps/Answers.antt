@@ -1,8 +1,8 @@
 use Rattle.std.proofs.Common.{refl, ◌∙◌, ap, inl, inr, arith}
 use Rattle.std.specs.Prelude.{◌==◌, ◌&&◌, ◌||◌}
-use Rattle.tta_stages.specs.Cited.{is_listed}
+use Rattle.tta_alloc.specs.Cited.{is_listed}
 use Rattle.tta_alloc.proofs.StepLemmas.{range_none, range_more, range_end}
-use Rattle.tta_stages.proofs.intervals.add_steps.Goals as goal
+use Rattle.tta_alloc.proofs.steps.add_steps.Goals as goal
 
 pub loop-at-init : goal.loop-at-init
 loop-at-init c = record {
