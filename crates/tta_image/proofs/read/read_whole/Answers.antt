@@ -1,6 +1,6 @@
-use Rattle.std.proofs.Common.{◌<◌, ◌^◌, subst, ap, sym, Ok, Err, arith}
+use Rattle.std.proofs.Common.{◌<◌, ◌^◌, ap, sym, Ok, Err, arith}
 use Rattle.std.proofs.lemmas.Result.{err_from_is_err_and}
-use Rattle.tta_image.specs.Cited.{Machine, Layout, IsMachine}
+use Rattle.tta_image.specs.Cited.{Layout}
 use Rattle.tta_image.proofs.ImageDecoded.{image_of_decoded, no_image}
 use Rattle.tta_image.proofs.HeaderDecoded.{all_checked, small_bytes, section_there}
 use Rattle.tta_image.proofs.PairsDecoded.{data_has}
@@ -24,7 +24,7 @@ body_of-requires-clause-data c =
 
 pub read_words-requires-clause-few : goal.read_words-requires-clause-few
 read_words-requires-clause-few c =
-    let rules = subst (λ (m : Machine). IsMachine m) c.m.view_is c.m.invariant in
+    let rules = c.rules.ensures in
     let room = all_checked c.args.target.now.machine.now c.args.digest.now c.args.bytes.now c.in_ok-count.count (sym c.in_ok-count.ensures) in
     let narrow : c.args.target.now.layout.now.width < 2 ^ 32 = omega arith in
     words_few c.args.target.now.machine.now c.args.digest.now c.args.bytes.now c.body_of.result.now c.in_ok-count.count c.args.target.now.layout.now.width rules room c.body_of.ensures
@@ -51,7 +51,7 @@ invariant_of-result c =
 
 pub returns-clause-image : goal.returns-clause-image
 returns-clause-image c =
-    let rules = subst (λ (m : Machine). IsMachine m) c.m.view_is c.m.invariant in
+    let rules = c.rules.ensures in
     image_of_decoded c.args.target.now.machine.now c.args.digest.now _ c.args.bytes.now rules c.told-digest (small_bytes c.args.bytes.now (λ i. (c.type_inv.bytes i).fits))
     (image_answer c.args.target.now.machine.now c.args.digest.now c.args.bytes.now c.body_of.result.now c.args.target.now.layout.now c.in_ok-count.count c.in_ok-init.init (Ok c.in_ok-words.words)
     c.args.target.now.laid_out c.body_of.ensures (sym c.in_ok-count.ensures) c.in_ok-init.ensures c.in_ok-words.ensures)
@@ -69,7 +69,7 @@ returns-in_err-words-clause-decoded c =
 
 pub returns-in_err-count-clause-refused : goal.returns-in_err-count-clause-refused
 returns-in_err-count-clause-refused c =
-    let rules = subst (λ (m : Machine). IsMachine m) c.m.view_is c.m.invariant in
+    let rules = c.rules.ensures in
     let error = err_from_is_err_and c.from_residual.result c.from_residual.ensures.1 in
     rw (error.1, error.2) (no_image c.args.target.now.machine.now c.args.digest.now c.args.bytes.now c.in_err-count.field-0.0 rules c.told-digest
     (header_answer c.args.target.now.machine.now c.args.digest.now c.args.bytes.now c.in_err-count.field-0.0 (sym c.in_err-count.ensures)))
@@ -86,14 +86,14 @@ returns-in_err-init-clause-decoded c =
 
 pub returns-in_err-init-clause-refused : goal.returns-in_err-init-clause-refused
 returns-in_err-init-clause-refused c =
-    let rules = subst (λ (m : Machine). IsMachine m) c.m.view_is c.m.invariant in
+    let rules = c.rules.ensures in
     let error = err_from_is_err_and c.from_residual-in_err-init.result c.from_residual-in_err-init.ensures.1 in
     rw (error.1, error.2) (no_image c.args.target.now.machine.now c.args.digest.now c.args.bytes.now c.in_err-init.field-0.0 rules c.told-digest
     (data_answer c.args.target.now.machine.now c.args.digest.now c.args.bytes.now c.in_ok-count.count c.in_err-init.field-0.0 (sym c.in_ok-count.ensures) c.in_err-init.ensures))
 
 pub returns-in_err-words-clause-refused : goal.returns-in_err-words-clause-refused
 returns-in_err-words-clause-refused c =
-    let rules = subst (λ (m : Machine). IsMachine m) c.m.view_is c.m.invariant in
+    let rules = c.rules.ensures in
     let error = err_from_is_err_and c.from_residual-in_err-words.result c.from_residual-in_err-words.ensures.1 in
     rw (error.1, error.2) (no_image c.args.target.now.machine.now c.args.digest.now c.args.bytes.now c.in_err-words.field-0.0 rules c.told-digest
     (image_answer c.args.target.now.machine.now c.args.digest.now c.args.bytes.now c.body_of.result.now c.args.target.now.layout.now c.in_ok-count.count c.in_ok-init.init (Err c.in_err-words.field-0.0)

@@ -1,7 +1,7 @@
 use Rattle.std.proofs.Common.{◌≡◌, ◌<◌, ◌^◌, true, List, ap, sym, ◌∙◌, length, subst, arith}
 use Rattle.std.specs.List.{flat_map}
 use Rattle.std.proofs.lemmas.List.Elements.{All-same}
-use Rattle.tta_image.specs.Cited.{Instruction, Layout, Datum, Whole, rises, Machine, IsMachine}
+use Rattle.tta_image.specs.Cited.{Instruction, Layout, Datum, Whole, rises}
 use Rattle.tta_image.proofs.PairsDecoded.{few_data}
 use Rattle.tta_image.proofs.Orders.{layout_in_order}
 use Rattle.tta_image.specs.Bits.{instruction_bits}
@@ -14,12 +14,12 @@ pack_words-requires-clause-slots c =
 
 pub pack_words-requires-clause-order : goal.pack_words-requires-clause-order
 pack_words-requires-clause-order c =
-    let rules = subst (λ (m : Machine). IsMachine m) c.m.view_is c.m.invariant in
+    let rules = c.rules.ensures in
     layout_in_order c.args.m.now c.in_ok-layout.layout rules c.in_ok-layout.ensures
 
 pub push_parts-requires-clause-few : goal.push_parts-requires-clause-few
 push_parts-requires-clause-few c =
-    let rules = subst (λ (m : Machine). IsMachine m) c.m.view_is c.m.invariant in
+    let rules = c.rules.ensures in
     let words = rules.limits.data_words in
     let small : c.args.m.now.data_words < 2 ^ 32 = omega arith in
     subst (λ (l : List Datum). length l < 2 ^ 32) (sym (c.as_slice-2.ensures ∙ ap (λ (w : Whole). w.init) c.whole.view_is))

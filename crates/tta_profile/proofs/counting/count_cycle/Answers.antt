@@ -1,9 +1,9 @@
 use Rattle.std.proofs.Common.{◌≡◌, ℕ, ◌+◌, ◌*◌, ◌<◌, ◌^◌, ◌==◌, Bool, ◌&&◌, true, false, List, [], ◌++◌, None, IsTrue, length, map, refl, sym, ap, ◌∙◌, subst, arith}
-use Rattle.std.specs.Prelude.{if◌then◌else◌, slice_get, slice_index, IfSome}
+use Rattle.std.specs.Prelude.{slice_get, slice_index, IfSome}
 use Rattle.std.specs.List.{AllByRecursion}
 use Rattle.std.specs.Option.{option_copied, option_map_or}
 use Rattle.std.proofs.lemmas.Bool.{eq-eqb}
-use Rattle.tta_profile.specs.Cited.{stated, has_bit, IsMachine, Instruction, next, is_halted, HasWritten, carried, coming, slots_of, is_slot_written_to, writes_in}
+use Rattle.tta_profile.specs.Cited.{stated, has_bit, Instruction, next, is_halted, HasWritten, carried, coming, slots_of, is_slot_written_to, writes_in}
 use Rattle.tta_places.proofs.Onward.{written_on}
 use Rattle.tta_places.proofs.Slots.{possible_slots, written_next}
 use Rattle.tta_profile.specs.declared.outside.Space.TheVariants.{Data, Frame}
@@ -20,16 +20,16 @@ write_made-requires-clause-slots g c =
     let on = c.args.basis.now in
     let now = c.args.sim.now in
     subst (λ o. IfSome o CanWrite) (sym c.coming-came.ensures.is)
-    (written_next on.m.now (subst IsMachine c.m.view_is c.m.invariant) on.code.now c.requires.loaded.legal (is_halted now.outcome) now.pc)
+    (written_next on.m.now c.rules.ensures on.code.now c.requires.loaded.legal (is_halted now.outcome) now.pc)
 
 pub count_outside-requires-clause-few : goal.count_outside-requires-clause-few
-count_outside-requires-clause-few g c = (subst IsMachine c.m.view_is c.m.invariant).limits.units
+count_outside-requires-clause-few g c = c.rules.ensures.limits.units
 
 pub count_outside-requires-clause-possible : goal.count_outside-requires-clause-possible
 count_outside-requires-clause-possible g c =
     let on = c.args.basis.now in
     let now = c.args.sim.now in
-    possible_slots on.m.now (subst IsMachine c.m.view_is c.m.invariant) on.code.now c.requires.loaded.legal (is_halted now.outcome) now.pc (length on.m.now.units)
+    possible_slots on.m.now c.rules.ensures on.code.now c.requires.loaded.legal (is_halted now.outcome) now.pc (length on.m.now.units)
     _ c.slots_of.result.now refl c.coming-came.ensures.is c.slots_of.ensures
 
 pub returns-in-Ran-clause-goes : goal.returns-in-Ran-clause-goes

@@ -1,8 +1,8 @@
-use Rattle.std.proofs.Common.{◌≡◌, ◌+◌, Bool, List, [], ◌++◌, IsTrue, refl, sym, ap, ◌∙◌, subst}
-use Rattle.std.specs.Prelude.{IfSome, None, if◌then◌else◌, is_some, map}
+use Rattle.std.proofs.Common.{◌≡◌, ◌+◌, Bool, [], ◌++◌, IsTrue, sym, ap, ◌∙◌, subst}
+use Rattle.std.specs.Prelude.{IfSome, None, is_some, map}
 use Rattle.std.specs.List.{AllByRecursion}
 use Rattle.std.specs.Option.{option_copied, option_map_or}
-use Rattle.tta_waves.specs.Cited.{stated, IsMachine, Instruction, is_halted, HasWritten, went_on, carried, coming, slots_of, is_slot_written_to, writes_in}
+use Rattle.tta_waves.specs.Cited.{stated, Instruction, is_halted, HasWritten, went_on, carried, coming, slots_of, is_slot_written_to, writes_in}
 use Rattle.tta_waves.proofs.Going.{goes}
 use Rattle.tta_places.proofs.Slots.{of_made, written_next}
 use Rattle.tta_waves.proofs.cycling.cycle_once.Goals as goal
@@ -15,7 +15,7 @@ pub write_made-requires-clause-slots : goal.write_made-requires-clause-slots
 write_made-requires-clause-slots g c =
     let on = c.args.basis.now in
     let now = c.args.sim.now in
-    let next = written_next on.m.now (subst IsMachine c.m.view_is c.m.invariant) on.code.now c.requires.loaded.legal (is_halted now.outcome) now.pc in
+    let next = written_next on.m.now c.rules.ensures on.code.now c.requires.loaded.legal (is_halted now.outcome) now.pc in
     of_made CanWrite (is_some (went_on c.cycle-step.result)) (option_copied c.coming-coming.result) (option_copied c.made_of-made.result) c.made_of-made.ensures
     (subst (λ o. IfSome o CanWrite) (sym c.coming-coming.ensures.is) next)
 

@@ -19,7 +19,7 @@ go_on-made-requires-clause-size g c =
     code_size c.args.p.now proc (said_proc c.in-Some.flat.now) here ∙ ap (λ sizes. get_or sizes proc 0) (sym sizes)
 
 pub go_on-made-requires-clause-rules : goal.go_on-made-requires-clause-rules
-go_on-made-requires-clause-rules g c = rw (← c.p.view_is) c.p.invariant
+go_on-made-requires-clause-rules g c = c.rules.ensures
 
 pub go_on-made-requires-clause-quiet : goal.go_on-made-requires-clause-quiet
 go_on-made-requires-clause-quiet g c =
