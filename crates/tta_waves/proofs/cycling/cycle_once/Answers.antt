@@ -1,5 +1,5 @@
 use Rattle.std.proofs.Common.{◌≡◌, ◌+◌, Bool, [], ◌++◌, IsTrue, sym, ap, ◌∙◌, subst}
-use Rattle.std.specs.Prelude.{IfSome, None, is_some, map}
+use Rattle.std.specs.Prelude.{IfSome, None, if◌then◌else◌, is_some, map}
 use Rattle.std.specs.List.{AllByRecursion}
 use Rattle.std.specs.Option.{option_copied, option_map_or}
 use Rattle.tta_waves.specs.Cited.{stated, Instruction, is_halted, HasWritten, went_on, carried, coming, slots_of, is_slot_written_to, writes_in}
