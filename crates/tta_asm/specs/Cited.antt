@@ -22,7 +22,6 @@ pub use Rattle.tta_code.specs.declared.code.Instruction.{Instruction}
 pub use Rattle.tta_code.specs.declared.code.Long.{Long}
 pub use Rattle.tta_code.specs.declared.code.Move.{Move}
 pub use Rattle.tta_code.specs.declared.whole.Datum.{Datum}
-pub use Rattle.tta_disasm.specs.Canonical.{op_name}
 unfoldable pub use Rattle.tta_ops.specs.Reserved.{is_reserved}
 pub use Rattle.tta_ops.specs.Set.{stated}
 unfoldable pub use Rattle.tta_ops.specs.Stated.{stated_by}

@@ -1,6 +1,7 @@
 -- What the names of a machine's parts stand for.
 use Rattle.std.specs.Prelude.{ℕ, ◌+◌, List, [], ◌∷◌, ◌++◌, map}
-use Rattle.tta_asm.specs.Cited.{Declared, Units, Machine, op_name}
+use Rattle.tta_asm.specs.Cited.{Declared, Units, Machine}
+pub use Rattle.tta_disasm.specs.Canonical.{op_name}
 use Rattle.tta_arch.specs.declared.parts.Unit.{Unit as OpUnit}
 use Rattle.tta_asm.specs.declared.parts.Part.{Part}
 use Rattle.tta_asm.specs.declared.parts.Part.TheVariants.{File, Imm, Template}
