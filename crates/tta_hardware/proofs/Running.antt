@@ -60,8 +60,8 @@ module _ (u : Units) (m : Machine) (code : Program) (had memory frame input : Li
       let same : cycles_after u circuit h inputs t + 0 ≡ cycles_after u circuit h inputs t = omega arith in record {
         holds = record {
           rom = rom_stays u m code had (before t) (inputs t) ∙ old.holds.rom;
-          memory = data_stays u m code had (before t) (inputs t) (stops_at t less) ∙ old.holds.memory;
-          frame = frame_stays u m code had (before t) (inputs t) (stops_at t less) ∙ old.holds.frame;
+          data_has = data_stays u m code had (before t) (inputs t) (stops_at t less) ∙ old.holds.data_has;
+          frame_has = frame_stays u m code had (before t) (inputs t) (stops_at t less) ∙ old.holds.frame_has;
           memory_size = holds.memory_size;
           frame_size = holds.frame_size;
         };
@@ -98,8 +98,8 @@ module _ (u : Units) (m : Machine) (code : Program) (had memory frame input : Li
     halted = ap is_set (halted_begins u m code had begins (inputs n) resets);
     rom = (waited (suc n) (omega arith)).holds.rom;
     spaces = record {
-      memory = (waited (suc n) (omega arith)).holds.memory;
-      frame = (waited (suc n) (omega arith)).holds.frame;
+      memory = (waited (suc n) (omega arith)).holds.data_has;
+      frame = (waited (suc n) (omega arith)).holds.frame_has;
       memory_size = holds.memory_size;
       frame_size = holds.frame_size;
     };
@@ -318,8 +318,8 @@ powered_holds : (m : Machine) (code : Program) (memory : List ℕ) (powers : Nam
     → HoldsWords m code memory (replicate m.frame_words 0) (powered same_signal same_store (circuit_of m code memory) powers)
 powered_holds m code memory powers sized = record {
   rom = refl;
-  memory = refl;
-  frame = refl;
+  data_has = refl;
+  frame_has = refl;
   memory_size = sized;
   frame_size = length-replicate m.frame_words 0;
 }
@@ -345,8 +345,8 @@ holds_code u m code memory powers inputs sized (suc t) =
     let old = holds_code u m code memory powers inputs sized t in
     let stored = has_stored u m code memory (hardware u m code memory powers inputs t) (inputs t) in record {
       rom = stored.rom ∙ old.rom;
-      memory = refl;
-      frame = refl;
+      data_has = refl;
+      frame_has = refl;
       memory_size = ap length stored.memory ∙ store_sized _ _ _ _ ∙ old.memory_size;
       frame_size = ap length stored.frame ∙ store_sized _ _ _ _ ∙ old.frame_size;
     }

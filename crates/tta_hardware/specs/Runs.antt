@@ -135,8 +135,8 @@ cyc_over u m code memory frame input n = iterate n (next u m code) (start_over m
 -- A circuit holds the words of the code, and these words of the data space and of the frame, as many as each has.
 pub record HoldsWords (m : Machine) (code : Program) (memory frame : List ℕ) (h : Hardware) : Type 0 where
   pub rom : h.memories Code ≡ map (word_of m) code.words
-  pub memory : h.memories Data ≡ memory
-  pub frame : h.memories Frame ≡ frame
+  pub data_has : h.memories Data ≡ memory
+  pub frame_has : h.memories Frame ≡ frame
   pub memory_size : length memory ≡ m.data_words
   pub frame_size : length frame ≡ m.frame_words
 
