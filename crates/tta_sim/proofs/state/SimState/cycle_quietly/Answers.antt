@@ -6,7 +6,7 @@ use Rattle.tta_sim.proofs.Going.{length-lines}
 use Rattle.tta_sim.proofs.Reaching.{Reached, at_line, code_stays, goes, answers}
 use Rattle.tta_sim.proofs.Silent.{silent_cycle, at_most_one, no_quiet_line, no_line}
 use Rattle.tta_sim.proofs.state.SimState.cycle_quietly.Given as given
-use Rattle.tta_sim.proofs.state.SimState.cycle_quietly.Goals.{After-part_of}
+use Rattle.tta_sim.proofs.state.SimState.cycle_quietly.Goals.{After-m}
 use Rattle.tta_sim.proofs.state.SimState.cycle_quietly.Goals as goal
 
 pub bounds-as_slice-self-inside : goal.bounds-as_slice-self-inside
@@ -17,7 +17,7 @@ bounds-as_slice-self-inside g c =
     omega (arith, c.if-self-len.false, c.len.ensures, many)
 
 -- the line at the address, once it was read
-module _ (g : given.Over) (c : After-part_of g) where
+module _ (g : given.Over) (c : After-m g) where
   reached : Reached c.args.m.now c.args.code.now c.args.self.now c.args.base c.args.region.now c.part_of.result c.self.inside.lines c.self.inside.run.store
       c.self.inside.run.control c.m.inside.control.delay c.index-as_slice-self.result
   reached = record {
@@ -33,12 +33,12 @@ module _ (g : given.Over) (c : After-part_of g) where
   }
 
 pub carry_quietly-requires-clause-ready : goal.carry_quietly-requires-clause-ready
-carry_quietly-requires-clause-ready g c = at_line (reached g (goal.at.carry_quietly-requires-clause-ready g c).After-part_of) c.requires.few
+carry_quietly-requires-clause-ready g c = at_line (reached g (goal.at.carry_quietly-requires-clause-ready g c).After-m) c.requires.few
 
 pub returns-clause-next : goal.returns-clause-next
 returns-clause-next g c = λ s same.
     let U = stated (λ v. (goal.OpUnit-dyn g v).unit_meaning v.1) c.args.units.now in
-    let here = reached g (goal.at.returns-clause-next g c).After-part_of in
+    let here = reached g (goal.at.returns-clause-next g c).After-m in
     let made = c.carry_quietly.ensures.cycle (slice_get s.rest 0) in
     silent_cycle U c.args.m.now c.args.code.now _ _ s c.carry_quietly.result c.carry_quietly.ensures.silent (goes here U _ _ _ _ _ made s same refl)
     (answers here U _ _ _ _ _ made s same refl)
@@ -46,7 +46,7 @@ returns-clause-next g c = λ s same.
 pub returns-clause-loaded : goal.returns-clause-loaded
 returns-clause-loaded g c =
     let U = stated (λ v. (goal.OpUnit-dyn g v).unit_meaning v.1) c.args.units.now in
-    code_stays (reached g (goal.at.returns-clause-loaded g c).After-part_of) U None _ _ _ _ (c.carry_quietly.ensures.cycle None)
+    code_stays (reached g (goal.at.returns-clause-loaded g c).After-m) U None _ _ _ _ (c.carry_quietly.ensures.cycle None)
 
 pub returns-clause-kept : goal.returns-clause-kept
 returns-clause-kept g c = (c.carry_quietly.ensures.cycle None).others.kept
