@@ -45,7 +45,7 @@ fn fit_of(
     requires list { is_list on.now.joined.machine.now (last_of trail).items ≡ true }
     ensures { IfOk result (λ r. IsFitOf on.now.joined.machine.now trail r) }
 {
-    let placed = placer.place(alloc, trail.last(), on.joined.machine, on.joined.net);
+    let placed = placer.place(alloc, trail.last(), &on.joined);
     let (trail, placed) = beside(trail, placed)?;
     Ok(Chosen { trail, placed })
 }

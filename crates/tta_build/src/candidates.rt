@@ -1,12 +1,11 @@
 //! The lists that may be placed for a block, each with how it came of the selected one.
 
 ghost use Rattle.std.specs.Prelude.{◌≡◌, true, IfOk, OnOk, IfSome};
-ghost use Rattle.tta_arch.specs.Machine.{Machine};
 ghost use Rattle.tta_moves.specs.declared.items.BlockList.{BlockList};
 ghost use Rattle.tta_moves.specs.Slots.{is_list};
 ghost use Rattle.tta_optim.specs.Kept.{IsStandIn};
 ghost use Rattle.tta_compose.specs.Compiler.{optimised};
-ghost use Rattle.tta_build.specs.Trail.{AreRounds, IsTrail, AreTrailsOf, last_of};
+ghost use Rattle.tta_build.specs.Trail.{IsTrail, AreTrailsOf, last_of};
 ghost use Rattle.tta_build.specs.Placing.{AreOfBlock, AreChoices, IsBound};
 
 use crate::keeping::beside;
@@ -159,14 +158,7 @@ impl Candidates {
         requires list { is_list on.now.joined.machine.now list.now.items ≡ true }
         ensures { IfOk result (λ o. IfSome o (λ r. IsBound on.now.joined.machine.now list.now r)) }
     {
-        match bind(
-            alloc,
-            list,
-            on.joined.machine,
-            on.joined.net,
-            on.choice,
-            Dealing::InTurn,
-        )? {
+        match bind(alloc, list, on, Dealing::InTurn)? {
             Some(other) => {
                 let choices = self.choices(alloc, on, &other);
                 let (list, choices) = beside(other, choices)?;
@@ -233,10 +225,7 @@ impl Candidates {
         ensures { IfOk result (λ ts. AreTrailsOf on.now.joined.machine.now b.now ts.items) }
     {
         let mut lists = Vec::new(alloc);
-        match self
-            .reloads
-            .reload(alloc, on.joined.machine, on.joined.net, on.choice, b)?
-        {
+        match self.reloads.reload(alloc, on, b)? {
             Some(served) => {
                 self.of_served(alloc, on, &mut lists, served)?;
                 Ok(lists)

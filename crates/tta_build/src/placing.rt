@@ -24,7 +24,7 @@ fn place_each(
 {
     let mut ps = Vec::new(alloc);
     for b in lists {
-        let p = placer.place(alloc, b, on.machine, on.net)?;
+        let p = placer.place(alloc, b, on)?;
         ps.push(p)?;
     }
     Ok(ps)

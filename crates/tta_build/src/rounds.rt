@@ -29,7 +29,7 @@ pub fn bound_by(
 {
     match dealing {
         Some(by) => {
-            let bound = bind(alloc, list, on.joined.machine, on.joined.net, on.choice, by)?;
+            let bound = bind(alloc, list, on, by)?;
             Ok(bound)
         }
         None => Ok(None),
@@ -62,9 +62,7 @@ impl Rounder {
         ensures round { IfOk result (λ r. IsRound on.now.joined.machine.now list.now r) }
         ensures last { IfOk result (λ r. r.passed.lively ≡ optimised on.now.joined.machine.now list.now) }
     {
-        let passed = self
-            .passes
-            .passed(alloc, list, on.joined.machine, on.joined.net)?;
+        let passed = self.passes.passed(alloc, list, &on.joined)?;
         Ok(Round {
             ordered: None,
             bound: None,
@@ -84,9 +82,7 @@ impl Rounder {
         ensures { let M = on.now.joined.machine.now in
             IfOk result (λ r. (b : BlockList) → IsStandIn M b list → IsRound M b r) }
     {
-        let passed = self
-            .passes
-            .passed(alloc, &list, on.joined.machine, on.joined.net)?;
+        let passed = self.passes.passed(alloc, &list, &on.joined)?;
         Ok(Round {
             ordered: Some(Ordered { by, list }),
             bound: None,
@@ -108,9 +104,7 @@ impl Rounder {
         ensures { let M = on.now.joined.machine.now in
             IfOk result (λ r. (b : BlockList) → IsStandIn M b list → IsRound M b r) }
     {
-        let passed = self
-            .passes
-            .passed(alloc, &bound, on.joined.machine, on.joined.net)?;
+        let passed = self.passes.passed(alloc, &bound, &on.joined)?;
         Ok(Round {
             ordered: Some(Ordered {
                 by: Order::Groups,
@@ -133,9 +127,7 @@ impl Rounder {
         ensures { let M = on.now.joined.machine.now in
             IfOk result (λ r. (b : BlockList) → IsStandIn M b bound → IsRound M b r) }
     {
-        let passed = self
-            .passes
-            .passed(alloc, &bound, on.joined.machine, on.joined.net)?;
+        let passed = self.passes.passed(alloc, &bound, &on.joined)?;
         Ok(Round {
             ordered: None,
             bound: Some(bound),
@@ -176,10 +168,7 @@ impl Rounder {
         requires list { is_list on.now.joined.machine.now list.now.items ≡ true }
         ensures { IfOk result (λ o. IfSome o (λ r. IsRound on.now.joined.machine.now list.now r)) }
     {
-        match self
-            .orders
-            .order(alloc, list, on.joined.machine, on.joined.net, way.rule)?
-        {
+        match self.orders.order(alloc, list, &on.joined, way.rule)? {
             Some(other) => {
                 let round = self.grouped(alloc, on, other, way.dealing)?;
                 Ok(Some(round))
@@ -200,13 +189,10 @@ impl Rounder {
         requires list { is_list on.now.joined.machine.now list.now.items ≡ true }
         ensures { IfOk result (λ o. IfSome o (λ r. IsRound on.now.joined.machine.now list.now r)) }
     {
-        match self.orders.order(
-            alloc,
-            list,
-            on.joined.machine,
-            on.joined.net,
-            Rule::Items(ties),
-        )? {
+        match self
+            .orders
+            .order(alloc, list, &on.joined, Rule::Items(ties))?
+        {
             Some(other) => {
                 let round = self.in_order(alloc, on, other, Order::Items)?;
                 Ok(Some(round))

@@ -7,11 +7,12 @@ ghost use Rattle.tta_moves.specs.Touches.{is_control};
 use crate::rows::{
     Row, against_free, against_shown, enter_reads, enter_writes, next_round, unused_rows,
 };
-use crate::touches::{is_control, lasts, reads_by, writes_by};
+use crate::touches::{lasts, reads_by, writes_by};
 use std::alloc::{AllocError, Global};
 use std::marker::Model;
 use tta_arch::Machine;
 use tta_moves::Item;
+use tta_moves::parts::is_control;
 
 /// What the items that are placed so far ask of the next one.
 #[derive(Drop)]

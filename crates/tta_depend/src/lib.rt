@@ -8,4 +8,4 @@ mod rows;
 mod touches;
 
 pub use bounds::Bounds;
-pub use touches::{is_control, lasts};
+pub use touches::lasts;

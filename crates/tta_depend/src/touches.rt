@@ -5,16 +5,16 @@ ghost use Rattle.std.specs.Option.{option_map_or};
 ghost use Rattle.std.specs.List.{list_all};
 ghost use Rattle.arrayvec.specs.ArrayVec.{array_vec_len};
 ghost use Rattle.tta_arch.specs.Effects.{Trigger, target_of};
-ghost use Rattle.tta_moves.specs.Touches.{place_of_source, guard_place, is_control};
+ghost use Rattle.tta_moves.specs.Touches.{place_of_source, guard_place};
 ghost use Rattle.tta_moves.specs.Bounds.{due_after, At, operand_read, written_at};
 ghost use Rattle.tta_moves.specs.Bounds.{reads_by, writes_by, lasts};
 ghost use Rattle.tta_depend.specs.Touched.{touched, is_soon};
 
 use crate::places::trigger;
 use arrayvec::ArrayVec;
-use tta_arch::{Dest, GuardRef, Machine, Op};
-use tta_list::entry_at;
+use tta_arch::{Dest, GuardRef, Machine};
 use tta_moves::numbers::{immediate, operand, port, read_place, register, return_address};
+use tta_moves::parts::operation;
 use tta_moves::{Item, ItemSource};
 
 /// A spot by its number, and how many cycles after the item's own it is touched.
@@ -28,10 +28,7 @@ pub struct Touched {
 fn due_after(m: &Machine, unit: u8, op: u8) -> Option<u8>
     ensures { result ≡ due_after m.now (Trigger unit op) }
 {
-    let Some(u) = entry_at(m.units.as_slice(), unit) else {
-        return None;
-    };
-    let Some(o) = entry_at(u.ops.as_slice(), op) else {
+    let Some(o) = operation(m, unit, op) else {
         return None;
     };
     if o.op.has_result() {
@@ -56,16 +53,6 @@ pub fn lasts(m: &Machine, x: Item) -> u32
             None => 1,
         },
         _ => 1,
-    }
-}
-
-/// Whether an item moves into control's trigger port.
-pub fn is_control(x: Item) -> bool
-    ensures { result ≡ is_control x }
-{
-    match x {
-        Item::Move { dst, .. } => matches!(dst, Dest::Jump | Dest::Call | Dest::Halt),
-        Item::Long { .. } => false,
     }
 }
 

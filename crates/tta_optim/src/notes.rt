@@ -1,16 +1,14 @@
 //! What is noted of each place on the way down a list.
 
 ghost use Rattle.std.specs.Prelude.{◌≡◌, slice_get, slice_set};
-ghost use Rattle.tta_moves.specs.Touches.{source_of_long, source_of};
-ghost use Rattle.tta_moves.specs.Forms.{sure_source};
 ghost use Rattle.tta_optim.specs.Notes.{note_in, since, copied_by, noted};
 
-use crate::places::written_place;
 use std::alloc::{AllocError, Global};
 use std::marker::Model;
-use tta_arch::{Machine, Source};
-use tta_moves::numbers::{PLACES, read_place};
-use tta_moves::{Item, ItemSource, LongValue};
+use tta_arch::Machine;
+use tta_moves::numbers::{PLACES, read_place, written_place};
+use tta_moves::parts::sure_source;
+use tta_moves::{Item, ItemSource};
 
 /// What the last item was that wrote a place.
 #[derive(Clone, Copy)]
@@ -42,39 +40,6 @@ fn note_in(list: u64, e: Entry) -> Note
     ensures { result ≡ note_in list e }
 {
     if e.list == list { e.note } else { BLANK }
-}
-
-/// A long immediate as a source: a word, or the address of a block.
-fn source_of_long(value: LongValue) -> ItemSource
-    ensures { result ≡ source_of_long value }
-{
-    match value {
-        LongValue::Word(word) => ItemSource::Port(Source::Value(word)),
-        LongValue::Address(block) => ItemSource::Address(block),
-    }
-}
-
-/// Where an item takes its word from.
-pub fn source_of(x: Item) -> ItemSource
-    ensures { result ≡ source_of x }
-{
-    match x {
-        Item::Move { src, .. } => src,
-        Item::Long { value, .. } => source_of_long(value),
-    }
-}
-
-/// What an item surely brings: nothing where it has a guard.
-fn sure_source(x: Item) -> Option<ItemSource>
-    ensures { result ≡ sure_source x }
-{
-    match x {
-        Item::Move { guard, src, .. } => match guard {
-            None => Some(src),
-            Some(_) => None,
-        },
-        Item::Long { value, .. } => Some(source_of_long(value)),
-    }
 }
 
 /// What is noted of all places on the way down a list, which contracts see as a list by the numbers

@@ -51,7 +51,6 @@ pub fn bypass(alloc: Global, b: &BlockList, m: &Machine, net: &Net) -> Result<Bl
 /// Leaves out each move that brings an operand port what it has. It fails only where there is no
 /// memory.
 pub fn share(alloc: Global, b: &BlockList, m: &Machine, net: &Net) -> Result<BlockList, AllocError>
-    requires net { IsNetOf net.now m.now }
     requires list { is_list m.now b.now.items ≡ true }
     ensures are { IfOk result (λ r. r.items ≡ share_items m.now [] b.now.items) }
     ensures meaning { IfOk result (λ r. KeepsMeaning m.now b.now.live_out b.now.items r.items) }
@@ -70,7 +69,6 @@ pub fn share(alloc: Global, b: &BlockList, m: &Machine, net: &Net) -> Result<Blo
 /// Leaves out each write of a register or an immediate register that nothing of what stays reads.
 /// It fails only where there is no memory.
 pub fn dead(alloc: Global, b: &BlockList, m: &Machine, net: &Net) -> Result<BlockList, AllocError>
-    requires net { IsNetOf net.now m.now }
     requires list { is_list m.now b.now.items ≡ true }
     ensures are { IfOk result (λ r. r.items ≡ dead_items m.now b.now.live_out b.now.items) }
     ensures meaning { IfOk result (λ r. KeepsMeaning m.now b.now.live_out b.now.items r.items) }

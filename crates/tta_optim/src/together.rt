@@ -60,16 +60,14 @@ impl Passes {
         &mut self,
         alloc: Global,
         b: &BlockList,
-        m: &Machine,
-        net: &Net,
+        on: &Joined<'_>,
     ) -> Result<Passed, AllocError>
-        requires net { IsNetOf net.now m.now }
-        requires list { is_list m.now b.now.items ≡ true }
-        ensures { IfOk result (λ r. IsPassed m.now b.now r) }
+        requires list { is_list on.now.machine.now b.now.items ≡ true }
+        ensures { IfOk result (λ r. IsPassed on.now.machine.now b.now r) }
     {
-        let on = Joined { machine: m, net };
         let live = b.live_out.as_slice();
-        let one = bypass_items(alloc, &mut self.notes, &on, b.items.as_slice())?;
+        let m = on.machine;
+        let one = bypass_items(alloc, &mut self.notes, on, b.items.as_slice())?;
         let bypassed = with_items(alloc, b, one)?;
         let two = share_items(alloc, &mut self.notes, m, bypassed.items.as_slice())?;
         let shared = with_items(alloc, b, two)?;
@@ -80,28 +78,6 @@ impl Passes {
             shared,
             lively,
         })
-    }
-
-    /// The list after all three passes. It fails only where there is no memory.
-    pub fn optimise(
-        &mut self,
-        alloc: Global,
-        b: &BlockList,
-        m: &Machine,
-        net: &Net,
-    ) -> Result<BlockList, AllocError>
-        requires net { IsNetOf net.now m.now }
-        requires list { is_list m.now b.now.items ≡ true }
-        ensures are { IfOk result (λ r. r.items ≡ optimise_items m.now b.now.live_out b.now.items) }
-        ensures meaning { IfOk result (λ r. KeepsMeaning m.now b.now.live_out b.now.items r.items) }
-        ensures bypassed { IfOk result (λ r. is_bypassed m.now r.items ≡ true) }
-        ensures shared { IfOk result (λ r. is_shared m.now r.items ≡ true) }
-        ensures lively { IfOk result (λ r. is_lively m.now b.now.live_out r.items ≡ true) }
-        ensures no_more { IfOk result (λ r. DoesNoMore m.now b.now.items r.items) }
-        ensures live { IfOk result (λ r. r.live_out ≡ b.now.live_out) }
-    {
-        let Passed { lively, .. } = self.passed(alloc, b, m, net)?;
-        Ok(lively)
     }
 }
 
@@ -123,6 +99,8 @@ pub fn optimise(
     ensures no_more { IfOk result (λ r. DoesNoMore m.now b.now.items r.items) }
     ensures live { IfOk result (λ r. r.live_out ≡ b.now.live_out) }
 {
+    let on = Joined { machine: m, net };
     let mut passes = Passes::new(alloc)?;
-    passes.optimise(alloc, b, m, net)
+    let Passed { lively, .. } = passes.passed(alloc, b, &on)?;
+    Ok(lively)
 }

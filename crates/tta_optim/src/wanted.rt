@@ -2,19 +2,17 @@
 
 ghost use Rattle.std.specs.Prelude.{◌≡◌, option_map, if◌then◌else◌, ◌&&◌, nat_lt, Some, None};
 ghost use Rattle.tta_arch.specs.Effects.{KeptReg};
-ghost use Rattle.tta_moves.specs.Touches.{source_of, guard_of, guard_place, target_of_item};
-ghost use Rattle.tta_moves.specs.Touches.{is_unguarded};
+ghost use Rattle.tta_moves.specs.Touches.{target_of_item};
 ghost use Rattle.tta_moves.specs.Numbers.{place_number};
 ghost use Rattle.tta_moves.specs.Forms.{register_of};
 ghost use Rattle.tta_optim.specs.Notes.{wanted_at};
 
-use crate::notes::source_of;
-use crate::places::written_place;
 use std::alloc::{AllocError, Global};
 use std::marker::Model;
 use tta_arch::{Dest, Machine};
 use tta_moves::Item;
-use tta_moves::numbers::{PLACES, immediate, read_place, register};
+use tta_moves::numbers::{PLACES, guard_place, immediate, read_place, register, written_place};
+use tta_moves::parts::{is_unguarded, source_of};
 
 /// Whether the word of each place is read later, on the way up a list, which contracts see as a list
 /// by the numbers of places. The table serves one list after another and is not cleared between
@@ -46,29 +44,6 @@ fn written_register(x: Item) -> Option<usize>
             _ => None,
         },
         Item::Long { imm, reg, .. } => Some(immediate(imm, reg)),
-    }
-}
-
-/// The number of the register of an item's guard.
-fn guard_register(x: Item) -> Option<usize>
-    ensures { result ≡ option_map (λ g. place_number (guard_place g)) (guard_of x) }
-{
-    let Item::Move { guard, .. } = x else {
-        return None;
-    };
-    match guard {
-        None => None,
-        Some(on) => Some(register(on.file, on.index)),
-    }
-}
-
-/// Whether an item is carried out whatever the guards are.
-fn is_unguarded(x: Item) -> bool
-    ensures { result ≡ is_unguarded x }
-{
-    match x {
-        Item::Move { guard, .. } => guard.is_none(),
-        Item::Long { .. } => true,
     }
 }
 
@@ -168,7 +143,7 @@ impl Wanted {
         if is_unguarded(x) {
             self.set(written_place(m, x), false);
         }
-        self.set(guard_register(x), true);
+        self.set(guard_place(x), true);
         self.set(read_place(source_of(x)), true);
     }
 }

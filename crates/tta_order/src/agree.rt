@@ -3,7 +3,6 @@
 ghost use Rattle.std.specs.Prelude.{◌≡◌, not, true, false, length, replicate};
 ghost use Rattle.std.specs.Prelude.{slice_get, slice_set, IfOk, OnOk, IfSome};
 ghost use Rattle.std.specs.Option.{option_map_or};
-ghost use Rattle.tta_connect.specs.Net.{IsNetOf};
 ghost use Rattle.tta_moves.specs.Slots.{is_list};
 ghost use Rattle.tta_optim.specs.Kept.{KeepsMeaning, AsksNoMore};
 ghost use Rattle.tta_order.specs.Channels.{may_wait};
@@ -12,14 +11,14 @@ ghost use Rattle.tta_order.specs.Rows.{none_changed, rows_from, table_after, agr
 ghost use Rattle.tta_order.specs.Rows.{found, same_found};
 
 use crate::ends::{in_limits, same_ends, same_parts};
-use crate::parts::started;
+use crate::operations::started;
 use crate::rows::{Found, Table, same_found};
 use crate::slots::{part_at, parts_of};
 use std::alloc::{AllocError, Global};
 use tta_arch::{Machine, Op};
-use tta_connect::Net;
-use tta_list::Items;
+use tta_connect::Joined;
 use tta_moves::{BlockList, Item, is_list};
+use tta_optim::with_items;
 
 /// Whether an item takes a word of the input.
 fn may_wait(m: &Machine, x: Item) -> bool
@@ -200,21 +199,21 @@ impl Checker {
         &mut self,
         alloc: Global,
         b: &BlockList,
-        m: &Machine,
-        net: &Net,
+        on: &Joined<'_>,
         numbers: &[usize],
     ) -> Result<Option<BlockList>, AllocError>
-        requires net { IsNetOf net.now m.now }
-        requires list { is_list m.now b.now.items ≡ true }
-        ensures order { IfOk result (λ o. IfSome o (λ r.
-            IsOrder m.now b.now.live_out b.now.items (picked b.now.items numbers.now))) }
+        requires list { is_list on.now.machine.now b.now.items ≡ true }
+        ensures order { let m = on.now.machine.now in IfOk result (λ o. IfSome o (λ r.
+            IsOrder m b.now.live_out b.now.items (picked b.now.items numbers.now))) }
         ensures items { IfOk result (λ o. IfSome o (λ r.
             r.items ≡ bare (picked b.now.items numbers.now))) }
-        ensures meaning { IfOk result (λ o. IfSome o (λ r.
-            KeepsMeaning m.now b.now.live_out b.now.items r.items)) }
-        ensures no_more { IfOk result (λ o. IfSome o (λ r. AsksNoMore m.now b.now.items r.items)) }
+        ensures meaning { let m = on.now.machine.now in IfOk result (λ o. IfSome o (λ r.
+            KeepsMeaning m b.now.live_out b.now.items r.items)) }
+        ensures no_more { let m = on.now.machine.now in IfOk result (λ o. IfSome o (λ r.
+            AsksNoMore m b.now.items r.items)) }
         ensures live { IfOk result (λ o. IfSome o (λ r. r.live_out ≡ b.now.live_out)) }
     {
+        let m = on.machine;
         m.rules();
         let items = b.items.as_slice();
         let live = b.live_out.as_slice();
@@ -241,38 +240,10 @@ impl Checker {
             return Ok(None);
         }
         let others = pick(alloc, items, numbers)?;
-        let kept = Vec::from_slice(alloc, live)?;
-        let r = BlockList {
-            items: Items::of(others),
-            live_out: Items::of(kept),
-        };
-        if !is_list(m, net, &r) {
+        let r = with_items(alloc, b, others)?;
+        if !is_list(m, on.net, &r) {
             return Ok(None);
         }
         Ok(Some(r))
     }
-}
-
-/// The list of a block in another order, as `Checker::in_order` gives it. The only error is out of
-/// memory. Whoever has many lists keeps a `Checker` instead.
-pub fn in_order(
-    alloc: Global,
-    b: &BlockList,
-    m: &Machine,
-    net: &Net,
-    numbers: &[usize],
-) -> Result<Option<BlockList>, AllocError>
-    requires net { IsNetOf net.now m.now }
-    requires list { is_list m.now b.now.items ≡ true }
-    ensures order { IfOk result (λ o. IfSome o (λ r.
-        IsOrder m.now b.now.live_out b.now.items (picked b.now.items numbers.now))) }
-    ensures items { IfOk result (λ o. IfSome o (λ r.
-        r.items ≡ bare (picked b.now.items numbers.now))) }
-    ensures meaning { IfOk result (λ o. IfSome o (λ r.
-        KeepsMeaning m.now b.now.live_out b.now.items r.items)) }
-    ensures no_more { IfOk result (λ o. IfSome o (λ r. AsksNoMore m.now b.now.items r.items)) }
-    ensures live { IfOk result (λ o. IfSome o (λ r. r.live_out ≡ b.now.live_out)) }
-{
-    let mut checker = Checker::new(alloc)?;
-    checker.in_order(alloc, b, m, net, numbers)
 }

@@ -10,8 +10,8 @@ use crate::ready::{Ready, Ties};
 use crate::uses::{Uses, all_uses};
 use std::alloc::{AllocError, Global};
 use tta_arch::Machine;
-use tta_depend::is_control;
 use tta_moves::Item;
+use tta_moves::parts::is_control;
 
 /// By what an order is chosen.
 #[derive(Clone, Copy, Debug, PartialEq, Eq)]

@@ -7,7 +7,7 @@ ghost use Rattle.tta_moves.specs.Numbers.{is_place, place_number};
 ghost use Rattle.tta_order.specs.Rows.{same_ends, same_part, same_parts};
 
 use crate::channels::{DATA, ENDING, FRAME, TRAFFIC};
-use crate::parts::stores_frame;
+use crate::operations::stores_frame;
 use crate::rows::Table;
 use crate::slots::part_at;
 use tta_arch::Machine;

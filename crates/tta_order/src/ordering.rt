@@ -1,7 +1,6 @@
 //! The list of a block in an order that a rule chooses.
 
 ghost use Rattle.std.specs.Prelude.{◌≡◌, true, IfOk, IfSome};
-ghost use Rattle.tta_connect.specs.Net.{IsNetOf};
 ghost use Rattle.tta_moves.specs.Slots.{is_list};
 ghost use Rattle.tta_optim.specs.Kept.{IsStandIn};
 
@@ -10,7 +9,7 @@ use crate::choice::{Rule, chosen};
 use crate::marks::Marks;
 use std::alloc::{AllocError, Global};
 use tta_arch::Machine;
-use tta_connect::Net;
+use tta_connect::Joined;
 use tta_moves::{BlockList, Item};
 
 /// The items from a number on. The only error is out of memory.
@@ -80,38 +79,17 @@ impl Orders {
         &mut self,
         alloc: Global,
         b: &BlockList,
-        m: &Machine,
-        net: &Net,
+        on: &Joined<'_>,
         rule: Rule,
     ) -> Result<Option<BlockList>, AllocError>
-        requires net { IsNetOf net.now m.now }
-        requires list { is_list m.now b.now.items ≡ true }
-        ensures { IfOk result (λ o. IfSome o (λ r. IsStandIn m.now b.now r)) }
+        requires list { is_list on.now.machine.now b.now.items ≡ true }
+        ensures { IfOk result (λ o. IfSome o (λ r. IsStandIn on.now.machine.now b.now r)) }
     {
-        let numbers = self.numbers(alloc, m, b.items.as_slice(), rule)?;
+        let numbers = self.numbers(alloc, on.machine, b.items.as_slice(), rule)?;
         if count_up(numbers.as_slice(), numbers.len()) {
             return Ok(None);
         }
-        let r = self.checker.in_order(alloc, b, m, net, numbers.as_slice())?;
+        let r = self.checker.in_order(alloc, b, on, numbers.as_slice())?;
         Ok(r)
     }
-}
-
-/// The list of a block in the order that a rule chooses, for a machine with this hub; none where
-/// that is the list's own, or is not known to be an order. The only error is out of memory. Whoever
-/// has many lists keeps `Orders` instead.
-pub fn order(
-    alloc: Global,
-    b: &BlockList,
-    m: &Machine,
-    net: &Net,
-    hub: u8,
-    rule: Rule,
-) -> Result<Option<BlockList>, AllocError>
-    requires net { IsNetOf net.now m.now }
-    requires list { is_list m.now b.now.items ≡ true }
-    ensures { IfOk result (λ o. IfSome o (λ r. IsStandIn m.now b.now r)) }
-{
-    let mut orders = Orders::new(alloc, hub)?;
-    orders.order(alloc, b, m, net, rule)
 }

@@ -8,11 +8,12 @@ ghost use Rattle.tta_order.specs.Slots.{constant_of, sure_constant, held_at, slo
 ghost use Rattle.tta_order.specs.Slots.{AreParts, AreSlots};
 
 use crate::channels::PARTS;
-use crate::parts::{is_unguarded, source_of, uses_frame};
+use crate::operations::uses_frame;
 use std::alloc::{AllocError, Global};
 use tta_arch::{Dest, Machine, Op, Source};
 use tta_list::entry_at;
 use tta_moves::numbers::UNITS;
+use tta_moves::parts::{is_unguarded, source_of};
 use tta_moves::{Item, ItemSource};
 
 /// The constant that a source is, if it is one.

@@ -1,13 +1,12 @@
 //! What each item of a list asks for and what it changes, for whoever chooses an order.
 
 use crate::channels::{CHANNELS, DATA, FRAME, TRAFFIC};
-use crate::parts::{guard_number, is_unguarded, source_number, written_number};
 use crate::slots::{part_at, parts_of};
 use std::alloc::{AllocError, Global};
 use tta_arch::{Dest, Machine, Op, Source, UnitOp};
-use tta_depend::is_control;
 use tta_list::entry_at;
-use tta_moves::numbers::{operand, port};
+use tta_moves::numbers::{guard_place, operand, port, read_place, written_place};
+use tta_moves::parts::{is_control, is_unguarded, operation, source_of};
 use tta_moves::{Item, ItemSource};
 
 /// The channels that an item asks for and those that it may change, each by its number. There is one
@@ -92,11 +91,11 @@ fn takes(m: &Machine, x: Item) -> u8 {
 /// What an item uses that starts no operation.
 fn uses_of_move(m: &Machine, x: Item) -> Uses {
     Uses {
-        source: short(source_number(x)),
-        guard: short(guard_number(x)),
+        source: short(read_place(source_of(x))),
+        guard: short(guard_place(x)),
         operand: None,
         used: None,
-        written: short(written_number(m, x)),
+        written: short(written_place(m, x)),
         stored: None,
         trigger: None,
         is_guarded: !is_unguarded(x),
@@ -115,8 +114,8 @@ fn uses_of_start(x: Item, unit: u8, o: UnitOp, part: u16) -> Uses {
         1
     };
     Uses {
-        source: short(source_number(x)),
-        guard: short(guard_number(x)),
+        source: short(read_place(source_of(x))),
+        guard: short(guard_place(x)),
         operand: if o.arity == 2 {
             short(Some(operand(unit)))
         } else {
@@ -135,13 +134,6 @@ fn uses_of_start(x: Item, unit: u8, o: UnitOp, part: u16) -> Uses {
         shows: due,
         takes: due,
     }
-}
-
-/// The operation of a unit's by its number.
-fn operation(m: &Machine, unit: u8, op: u8) -> Option<UnitOp> {
-    let u = entry_at(m.units.as_slice(), unit)?;
-    let o = entry_at(u.ops.as_slice(), op)?;
-    Some(*o)
 }
 
 /// What an item uses, which uses this part of the frame space, if it uses one.

@@ -10,8 +10,9 @@ ghost use Rattle.tta_reload.specs.Facts.{IsOperand, StoresBy};
 
 use std::alloc::{AllocError, Global};
 use tta_arch::{Dest, Machine, Op, Source};
+use tta_moves::parts::{is_unguarded, sure_source};
 use tta_moves::{Item, ItemSource};
-use tta_order::parts::{is_unguarded, operand_number, source_of, started, stores_frame};
+use tta_order::operations::{operand_number, started, stores_frame};
 
 /// What an item does with the frame.
 #[derive(Clone, Copy)]
@@ -30,11 +31,8 @@ pub enum Access {
 pub fn sure_word(x: Item) -> Option<u32>
     ensures { result ≡ option_and_then word_of (sure_source x) }
 {
-    if !is_unguarded(x) {
-        return None;
-    }
-    match source_of(x) {
-        ItemSource::Port(Source::Value(word)) => Some(word),
+    match sure_source(x) {
+        Some(ItemSource::Port(Source::Value(word))) => Some(word),
         _ => None,
     }
 }
@@ -43,12 +41,9 @@ pub fn sure_word(x: Item) -> Option<u32>
 pub fn sure_port(x: Item) -> Option<Source>
     ensures { result ≡ option_and_then port_of (sure_source x) }
 {
-    if !is_unguarded(x) {
-        return None;
-    }
-    match source_of(x) {
-        ItemSource::Port(src) => Some(src),
-        ItemSource::Address(_) => None,
+    match sure_source(x) {
+        Some(ItemSource::Port(src)) => Some(src),
+        _ => None,
     }
 }
 

@@ -3,10 +3,11 @@
 use std::alloc::{AllocError, Global};
 use tta_arch::{Machine, Op};
 use tta_moves::Item;
-use tta_moves::numbers::{PLACES, register, return_address};
-use tta_order::parts::{
-    guard_number, is_control, is_unguarded, operand_number, source_number, started, written_number,
+use tta_moves::numbers::{
+    PLACES, guard_place, read_place, register, return_address, written_place,
 };
+use tta_moves::parts::{is_control, is_unguarded, source_of};
+use tta_order::operations::{operand_number, started};
 
 /// Marks a place, if one is given.
 fn mark(wanted: &mut [bool], place: Option<usize>, is: bool) {
@@ -36,10 +37,10 @@ fn lasts(m: &Machine, x: Item) -> bool {
 /// Goes before an item that stays.
 fn pass(wanted: &mut [bool], m: &Machine, x: Item) {
     if is_unguarded(x) {
-        mark(wanted, written_number(m, x), false);
+        mark(wanted, written_place(m, x), false);
     }
-    mark(wanted, source_number(x), true);
-    mark(wanted, guard_number(x), true);
+    mark(wanted, read_place(source_of(x)), true);
+    mark(wanted, guard_place(x), true);
     mark(wanted, operand_number(m, x), true);
 }
 
@@ -60,7 +61,7 @@ pub fn asked(
     while i > 0 {
         i -= 1;
         let x = items[i];
-        if lasts(m, x) || is_marked(wanted.as_slice(), written_number(m, x)) {
+        if lasts(m, x) || is_marked(wanted.as_slice(), written_place(m, x)) {
             pass(wanted.as_mut_slice(), m, x);
             numbers.push(i)?;
         }

@@ -13,7 +13,7 @@ use arrayvec::ArrayVec;
 use tta_arch::{Dest, Source};
 use tta_connect::Joined;
 use tta_moves::Item;
-use tta_order::parts::source_of;
+use tta_moves::parts::source_of;
 
 /// The slot whose word a register keeps, and the number of the next item that loads it.
 #[derive(Clone, Copy, Default)]

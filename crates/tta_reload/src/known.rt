@@ -15,9 +15,9 @@ use arrayvec::ArrayVec;
 use tta_arch::{Dest, GuardRef, Machine, Source};
 use tta_connect::Joined;
 use tta_list::entry_at;
-use tta_moves::numbers::read_place;
+use tta_moves::numbers::{read_place, written_place};
 use tta_moves::{Item, ItemSource, is_joined};
-use tta_order::parts::{stores_frame, written_number};
+use tta_order::operations::stores_frame;
 
 /// What is known after some items of a list.
 #[derive(Drop)]
@@ -185,7 +185,7 @@ impl Known {
             → IsChange m.now before x result }
     {
         Change {
-            written: written_number(m, x),
+            written: written_place(m, x),
             stores: stores_frame(m, x),
             slot: stored(m, self.operand, x),
         }

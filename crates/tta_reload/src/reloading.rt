@@ -1,8 +1,6 @@
 //! The pass: copies, served reads, and only what something asks for.
 
 ghost use Rattle.std.specs.Prelude.{◌≡◌, ◌≤◌, ℕ, List, [], length, true, IfOk, IfSome};
-ghost use Rattle.tta_connect.specs.Net.{IsNetOf};
-ghost use Rattle.tta_connect.specs.Coverage.{IsChoice};
 ghost use Rattle.tta_moves.specs.declared.items.Item.{Item};
 ghost use Rattle.tta_reload.specs.Copied.{AreSpare};
 ghost use Rattle.tta_reload.specs.Thinned.{AreThinned};
@@ -19,23 +17,11 @@ use crate::upcoming::next_loads;
 use crate::worth::{is_worth, may_store_over};
 use std::alloc::{AllocError, Global};
 use tta_arch::Machine;
-use tta_connect::{Choice, Joined, Net};
-use tta_list::Items;
+use tta_connect::{Covered, Joined};
 use tta_moves::{BlockList, Item, is_list};
+use tta_optim::with_items;
 use tta_order::Checker;
-use tta_order::parts::uses_frame;
-
-/// A list with these items, and the registers of another that are read after it.
-fn with_items(alloc: Global, b: &BlockList, items: Vec<Item>) -> Result<BlockList, AllocError>
-    ensures items { IfOk result (λ r. r.items ≡ items.items) }
-    ensures live { IfOk result (λ r. r.live_out ≡ b.now.live_out) }
-{
-    let live = Vec::from_slice(alloc, b.live_out.as_slice())?;
-    Ok(BlockList {
-        items: Items::of(items),
-        live_out: Items::of(live),
-    })
-}
+use tta_order::operations::uses_frame;
 
 /// The items of a list with copies, each reading a source with its word that is no load, where there
 /// is one. The only error is out of memory.
@@ -146,50 +132,31 @@ impl Reloads {
     pub fn reload(
         &mut self,
         alloc: Global,
-        m: &Machine,
-        net: &Net,
-        c: &Choice,
+        on: &Covered<'_>,
         b: &BlockList,
     ) -> Result<Option<BlockList>, AllocError>
-        requires net { IsNetOf net.now m.now }
-        requires choice { IsChoice m.now c.now }
-        ensures { IfOk result (λ o. IsReloaded m.now b.now o) }
+        ensures { IfOk result (λ o. IsReloaded on.now.joined.machine.now b.now o) }
     {
-        let on = Joined { machine: m, net };
-        let Some(more) = reworked(alloc, &on, c.hub, b)? else {
+        let joined = &on.joined;
+        let m = joined.machine;
+        let hub = on.choice.hub;
+        let Some(more) = reworked(alloc, joined, hub, b)? else {
             return Ok(None);
         };
         let numbers = asked(alloc, m, more.live_out.as_slice(), more.items.as_slice())?;
         let Some(r) = self
             .checker
-            .in_order(alloc, &more, m, net, numbers.as_slice())?
+            .in_order(alloc, &more, joined, numbers.as_slice())?
         else {
             return Ok(None);
         };
         if !gains(m, b, &r) {
             return Ok(None);
         }
-        if is_straight(alloc, &on, c.hub, r.items.as_slice())? {
+        if is_straight(alloc, joined, hub, r.items.as_slice())? {
             Ok(Some(r))
         } else {
             Ok(None)
         }
     }
-}
-
-/// A list that may stand for the list of a block, as `Reloads::reload` gives it. The only error is
-/// out of memory. Whoever has many blocks keeps `Reloads` instead.
-pub fn reload(
-    alloc: Global,
-    m: &Machine,
-    net: &Net,
-    c: &Choice,
-    b: &BlockList,
-) -> Result<Option<BlockList>, AllocError>
-    requires net { IsNetOf net.now m.now }
-    requires choice { IsChoice m.now c.now }
-    ensures { IfOk result (λ o. IsReloaded m.now b.now o) }
-{
-    let mut reloads = Reloads::new(alloc)?;
-    reloads.reload(alloc, m, net, c, b)
 }

@@ -11,8 +11,8 @@ ghost use Rattle.tta_reload.specs.Copied.{AreSpare};
 
 use std::alloc::{AllocError, Global};
 use tta_arch::Source;
+use tta_moves::parts::source_of;
 use tta_moves::{BlockList, Item, ItemSource};
-use tta_order::parts::source_of;
 
 /// Whether an item has a register as its guard.
 fn is_guarded_by(x: Item, file: u8, index: u8) -> bool

@@ -9,9 +9,9 @@ ghost use Rattle.tta_reload.specs.Trails.{could_take, may_detour};
 use std::alloc::{AllocError, Global};
 use tta_arch::{Machine, Source};
 use tta_connect::Joined;
-use tta_moves::numbers::{PLACES, read_place};
+use tta_moves::numbers::{PLACES, read_place, written_place};
+use tta_moves::parts::{is_unguarded, source_of};
 use tta_moves::{Item, ItemSource, is_joined};
-use tta_order::parts::{is_unguarded, source_of, written_number};
 
 /// The sources from which the word of a place has come, the newest first.
 #[derive(Clone, Copy)]
@@ -97,7 +97,7 @@ fn pass(m: &Machine, hub: u8, trails: &mut Vec<Trail>, x: Item)
     ensures { trails.new.items ≡ trails_after m.now hub trails.old.items x }
 {
     let t = next_trail(hub, trails.as_slice(), x);
-    if let Some(n) = written_number(m, x) {
+    if let Some(n) = written_place(m, x) {
         if n < trails.len() {
             trails[n] = t;
         }

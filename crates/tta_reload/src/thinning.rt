@@ -10,7 +10,7 @@ use arrayvec::ArrayVec;
 use std::alloc::{AllocError, Global};
 use tta_arch::{Machine, Op};
 use tta_moves::Item;
-use tta_order::parts::started;
+use tta_order::operations::started;
 
 /// Whether a slot is one of some.
 fn is_in(slot: u32, slots: &[u32]) -> bool

@@ -3,12 +3,11 @@
 ghost use Rattle.std.specs.Prelude.{◌≡◌, ◌<◌, ◌≤◌, ℕ, true, false, length, slice_get};
 ghost use Rattle.std.specs.Option.{option_map_or};
 ghost use Rattle.std.specs.List.{list_any};
-ghost use Rattle.tta_connect.specs.Net.{IsNetOf};
 ghost use Rattle.tta_moves.specs.Slots.{carries, fills, has_slot};
 ghost use Rattle.tta_sched.specs.Serial.{IsLeastAlone};
 
-use tta_arch::{Machine, Template};
-use tta_connect::Net;
+use tta_arch::Template;
+use tta_connect::Joined;
 use tta_moves::{Item, Slot, carried};
 
 /// Whether a template writes an immediate register.
@@ -35,14 +34,14 @@ fn first_template(templates: &[Template], imm: u8, reg: u8) -> u8
 }
 
 /// The least slot that carries an item that is alone in its cycle.
-pub fn slot_alone(m: &Machine, net: &Net, x: Item) -> Slot
-    requires net { IsNetOf net.now m.now }
-    requires slot { has_slot m.now x ≡ true }
-    ensures carried { carries m.now result x ≡ true }
-    ensures least { IsLeastAlone m.now x result }
+pub fn slot_alone(on: &Joined<'_>, x: Item) -> Slot
+    requires slot { has_slot on.now.machine.now x ≡ true }
+    ensures carried { carries on.now.machine.now result x ≡ true }
+    ensures least { IsLeastAlone on.now.machine.now x result }
 {
+    let m = on.machine;
     match x {
-        Item::Move { guard, src, dst } => match net.bus_for(m, &carried(m, src), &dst, &guard) {
+        Item::Move { guard, src, dst } => match on.net.bus_for(m, &carried(m, src), &dst, &guard) {
             Some(bus) => Slot::Bus(bus),
             None => unreachable!(),
         },

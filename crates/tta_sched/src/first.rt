@@ -53,7 +53,6 @@ pub struct Placer {
 
 impl Placer {
     ghost use Rattle.std.specs.Prelude.{◌≡◌, ◌<◌, true, OnOk, IfOk};
-    ghost use Rattle.tta_connect.specs.Net.{IsNetOf};
     ghost use Rattle.tta_moves.specs.Slots.{has_slot, is_list};
     ghost use Rattle.tta_moves.specs.Bounds.{Respects};
     ghost use Rattle.tta_moves.specs.FirstFit.{IsFirstFit};
@@ -110,23 +109,20 @@ impl Placer {
         &mut self,
         alloc: Global,
         b: &BlockList,
-        m: &Machine,
-        net: &Net,
+        on: &Joined<'_>,
     ) -> Result<Placed, AllocError>
-        requires net { IsNetOf net.now m.now }
-        requires list { is_list m.now b.now.items ≡ true }
-        ensures first { IfOk result (λ p. IsFirstFit m.now b.now.items p) }
-        ensures respects { IfOk result (λ p. Respects m.now b.now.items p) }
-        ensures room { IfOk result (λ p. HasRoom m.now b.now.items p) }
+        requires list { is_list on.now.machine.now b.now.items ≡ true }
+        ensures first { IfOk result (λ p. IsFirstFit on.now.machine.now b.now.items p) }
+        ensures respects { IfOk result (λ p. Respects on.now.machine.now b.now.items p) }
+        ensures room { IfOk result (λ p. HasRoom on.now.machine.now b.now.items p) }
     {
-        m.rules();
-        let on = Joined { machine: m, net };
-        self.bounds.clear(m);
+        on.machine.rules();
+        self.bounds.clear(on.machine);
         self.table.clear();
         let room = Vec::with_capacity(alloc, b.items.len())?;
         let mut placed = Items::of(room);
         for x in b.items.as_slice() {
-            self.place_item(&mut placed, x, &on)?;
+            self.place_item(&mut placed, x, on)?;
         }
         let length = self.bounds.length();
         Ok(Placed {
@@ -150,7 +146,8 @@ pub fn place_block(
     ensures respects { IfOk result (λ p. Respects m.now b.now.items p) }
     ensures room { IfOk result (λ p. HasRoom m.now b.now.items p) }
 {
+    let on = Joined { machine: m, net };
     let mut placer = Placer::new(alloc, m)?;
-    let placed = placer.place(alloc, b, m, net)?;
+    let placed = placer.place(alloc, b, &on)?;
     Ok(placed)
 }

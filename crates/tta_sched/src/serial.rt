@@ -11,9 +11,10 @@ ghost use Rattle.tta_sched.specs.Room.{HasRoom};
 use crate::alone::slot_alone;
 use std::alloc::{AllocError, Global};
 use tta_arch::Machine;
-use tta_connect::Net;
-use tta_depend::{is_control, lasts};
+use tta_connect::{Joined, Net};
+use tta_depend::lasts;
 use tta_list::Items;
+use tta_moves::parts::is_control;
 use tta_moves::{BlockList, Item, Placed, PlacedItem};
 
 /// How many cycles a block takes whose items are over in so many: a last control item adds its delay.
@@ -43,10 +44,11 @@ pub fn place_serial(
     ensures respects { IfOk result (λ p. Respects m.now b.now.items p) }
     ensures room { IfOk result (λ p. HasRoom m.now b.now.items p) }
 {
+    let on = Joined { machine: m, net };
     let mut placed = Items::new(alloc);
     let mut cycle = 0;
     for x in b.items.as_slice() {
-        let slot = slot_alone(m, net, *x);
+        let slot = slot_alone(&on, *x);
         placed.push(PlacedItem {
             item: *x,
             cycle,

@@ -1,7 +1,6 @@
 //! Ways: the moves that bring a word to a place.
 
 ghost use Rattle.std.specs.Prelude.{◌≡◌, None, ◌∷◌, ◌++◌, [], IfOk, option_map, find};
-ghost use Rattle.tta_moves.specs.Touches.{source_of_long};
 ghost use Rattle.tta_moves.specs.Slots.{joined};
 ghost use Rattle.tta_select.specs.Select.{filled, through_hub, long_hub, long_way, constant, carry};
 ghost use Rattle.tta_select.specs.Select.{value};
@@ -11,6 +10,7 @@ use std::alloc::AllocError;
 use tta_arch::{Dest, GuardRef, Source, Template};
 use tta_connect::Choice;
 use tta_list::Items;
+use tta_moves::parts::source_of_long;
 use tta_moves::{Item, ItemSource, LongValue, is_joined};
 
 /// The hub's register for ways.
@@ -28,16 +28,6 @@ pub fn from_hub(c: &Choice, index: u8) -> ItemSource
     ensures { result ≡ ItemSource.Port (Source.Reg c.now.hub index) }
 {
     ItemSource::Port(Source::Reg { file: c.hub, index })
-}
-
-/// A long immediate as a source: a word, or the address of a block.
-pub fn source_of_long(value: LongValue) -> ItemSource
-    ensures { result ≡ source_of_long value }
-{
-    match value {
-        LongValue::Word(word) => ItemSource::Port(Source::Value(word)),
-        LongValue::Address(block) => ItemSource::Address(block),
-    }
 }
 
 /// Puts a move at the end.

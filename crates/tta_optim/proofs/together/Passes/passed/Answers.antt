@@ -9,7 +9,7 @@ use Rattle.tta_optim.proofs.together.Passes.passed.Goals as goal
 
 pub share_items-requires : goal.share_items-requires
 share_items-requires c =
-    let m = c.args.m.now in
+    let m = c.args.on.now.machine.now in
     let items = c.args.b.now.items in
     let is : c.as_slice-2.result.now ≡ bypass_items m [] items =
     c.as_slice-2.ensures ∙ (c.in_ok-bypassed.ensures.items ∙ (c.in_ok-one.ensures ∙ ap (λ (l : List Item). bypass_items m [] l) c.as_slice.ensures)) in
@@ -18,7 +18,7 @@ share_items-requires c =
 
 pub dead_items-requires : goal.dead_items-requires
 dead_items-requires c =
-    let m = c.args.m.now in
+    let m = c.args.on.now.machine.now in
     let items = c.args.b.now.items in
     let one : c.as_slice-2.result.now ≡ bypass_items m [] items =
     c.as_slice-2.ensures ∙ (c.in_ok-bypassed.ensures.items ∙ (c.in_ok-one.ensures ∙ ap (λ (l : List Item). bypass_items m [] l) c.as_slice.ensures)) in
@@ -29,7 +29,7 @@ dead_items-requires c =
 
 pub returns : goal.returns
 returns c =
-    let m = c.args.m.now in
+    let m = c.args.on.now.machine.now in
     let b = c.args.b.now in
     let live = c.as_slice-live.ensures in record {
       bypassed = list_is c.in_ok-bypassed.bypassed b _

@@ -8,9 +8,9 @@ use Rattle.tta_order.proofs.Ordered.{Tested, order_is, ordered_meaning, ordered_
 use Rattle.tta_order.proofs.agree.Checker.in_order.Goals as goal
 
 tested : (c : goal.After-drop-found-2)
-    → Tested c.args.m.now c.args.b.now.live_out c.args.b.now.items c.of.result c.as_slice-parts.result.now c.in_ok-rows.rows.items c.rows_of.new.table c.agrees.new.table c.args.numbers.now
+    → Tested c.args.on.now.machine.now c.args.b.now.live_out c.args.b.now.items c.in_ok-r.r.items c.as_slice-parts.result.now c.in_ok-rows.rows.items c.rows_of.new.table c.agrees.new.table c.args.numbers.now
 tested c =
-    let m = c.args.m.now in
+    let m = c.args.on.now.machine.now in
     let items = c.args.b.now.items in
     let fits = c.in_ok-fits.ensures.agree c.if-not-fits.false in
     let by = c.in_ok-fits.ensures.end c.if-not-fits.false in
@@ -30,15 +30,15 @@ tested c =
           subst (λ (l : List Item). AreParts m l c.as_slice-parts.result.now) c.as_slice-items.ensures
           (subst (λ (l : List ℕ). AreParts m c.as_slice-items.result.now l) (sym c.as_slice-parts.ensures.value) c.in_ok-found.ensures);
       ends = ap (λ (l : List (ℕ × ℕ)). same_ends l c.agrees.new.table c.rows_of.new.table) (sym c.as_slice-live.ensures) ∙ sym c.same_ends.ensures ∙ c.if-not-same_ends.false;
-      picked_are = c.of.ensures ∙ c.in_ok-others.ensures ∙ ap (λ (l : List Item). bare (picked l c.args.numbers.now)) c.as_slice-items.ensures;
+      picked_are = c.in_ok-r.ensures.items ∙ c.in_ok-others.ensures ∙ ap (λ (l : List Item). bare (picked l c.args.numbers.now)) c.as_slice-items.ensures;
       other_list = sym c.is_list.ensures ∙ c.if-not-is_list.false;
     }
 
 pub returns-clause-order : goal.returns-clause-order
-returns-clause-order c = order_is c.args.m.now c.args.b.now.live_out c.args.b.now.items c.of.result c.as_slice-parts.result.now c.in_ok-rows.rows.items c.rows_of.new.table c.agrees.new.table c.args.numbers.now (tested c)
+returns-clause-order c = order_is c.args.on.now.machine.now c.args.b.now.live_out c.args.b.now.items c.in_ok-r.r.items c.as_slice-parts.result.now c.in_ok-rows.rows.items c.rows_of.new.table c.agrees.new.table c.args.numbers.now (tested c)
 
 pub returns-clause-meaning : goal.returns-clause-meaning
-returns-clause-meaning c = ordered_meaning c.args.m.now c.args.b.now.live_out c.args.b.now.items c.of.result c.as_slice-parts.result.now c.in_ok-rows.rows.items c.rows_of.new.table c.agrees.new.table c.args.numbers.now (tested c)
+returns-clause-meaning c = ordered_meaning c.args.on.now.machine.now c.args.b.now.live_out c.args.b.now.items c.in_ok-r.r.items c.as_slice-parts.result.now c.in_ok-rows.rows.items c.rows_of.new.table c.agrees.new.table c.args.numbers.now (tested c)
 
 pub returns-clause-no_more : goal.returns-clause-no_more
-returns-clause-no_more c = ordered_no_more c.args.m.now c.args.b.now.live_out c.args.b.now.items c.of.result c.as_slice-parts.result.now c.in_ok-rows.rows.items c.rows_of.new.table c.agrees.new.table c.args.numbers.now (tested c)
+returns-clause-no_more c = ordered_no_more c.args.on.now.machine.now c.args.b.now.live_out c.args.b.now.items c.in_ok-r.r.items c.as_slice-parts.result.now c.in_ok-rows.rows.items c.rows_of.new.table c.agrees.new.table c.args.numbers.now (tested c)

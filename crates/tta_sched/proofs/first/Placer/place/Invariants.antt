@@ -6,8 +6,8 @@ use Rattle.tta_sched.proofs.first.Placer.place.Given as goal
 
 abbrev pub invariant-loop-x : goal.invariant-loop-x
 invariant-loop-x l = record {
-  keeps : Keeps l.m l.self.bounds l.self.table l.placed;
+  keeps : Keeps l.on.machine.now l.self.bounds l.self.table l.placed;
   order : map (λ y. y.item) l.placed ≡ take l.x-index l.b.items;
-  first : (k : ℕ) (y : PlacedItem) → slice_get l.placed k ≡ Some y → FitsFirst l.m (take k l.placed) y;
-  soon : end_of l.m l.placed ≤ 16 * l.x-index;
+  first : (k : ℕ) (y : PlacedItem) → slice_get l.placed k ≡ Some y → FitsFirst l.on.machine.now (take k l.placed) y;
+  soon : end_of l.on.machine.now l.placed ≤ 16 * l.x-index;
 }

@@ -4,7 +4,7 @@ use Rattle.tta_optim.specs.Kept.{KeepsMeaning, DoesNoMore}
 use Rattle.tta_optim.proofs.Meanings.{optimise_meaning}
 use Rattle.tta_optim.proofs.NoMore.{optimise_no_more, optimise_bypassed, optimise_shared, optimise_lively}
 use Rattle.tta_optim.proofs.Passing.{passed_is}
-use Rattle.tta_optim.proofs.together.Passes.optimise.Goals as goal
+use Rattle.tta_optim.proofs.together.optimise.Goals as goal
 
 pub returns : goal.returns
 returns c =
