@@ -26,15 +26,15 @@ def links(text, count):
 class Queues:
     """Cores that feed one another. What a core is, says the class that stands on this one: `outputs[k]` is what core k has output, and
     `move(k, rest)` lets it go on with this rest of its input, and gives the rest that is left and how the core stands. A core's input is
-    what its feeder has output so far, less the words that it has taken."""
+    what its feeder has output so far, less the words that it has taken; that of a core which no other feeds is `given[k]`, less those."""
 
-    def __init__(self, feeds):
-        self.feeds, self.taken = feeds, [0] * len(feeds)
+    def __init__(self, feeds, given=None):
+        self.feeds, self.taken, self.given = feeds, [0] * len(feeds), given or [[] for _ in feeds]
 
     def turn(self, k):
         """Lets a core go on by one, and answers how it stands. A core that waits changes nothing."""
         feeder = self.feeds[k]
-        rest = [] if feeder is None else self.outputs[feeder][self.taken[k]:]
+        rest = (self.given[k] if feeder is None else self.outputs[feeder])[self.taken[k]:]
         left, stands = self.move(k, list(rest))
         self.taken[k] += len(rest) - len(left)
         return stands
@@ -48,8 +48,8 @@ class Cluster(Queues):
     """Cores of machines, each with the canonical text of its code and the words of its data space at first. One turn is one cycle; one
     that faults changes nothing but that the core is at that fault from then on."""
 
-    def __init__(self, cores, feeds):
-        super().__init__(feeds)
+    def __init__(self, cores, feeds, given=None):
+        super().__init__(feeds, given)
         self.cores = [begun(canonical, m, memory, []) for m, canonical, memory in cores]
         self.outputs = [state.output for state, _ in self.cores]
 
@@ -87,13 +87,21 @@ class Programs(Queues):
         return rest, "running"
 
 
+def rounds_of(cluster, bound):
+    """Lets each core go on by one, round by round, until none runs or so many rounds are over: how each stands, and whether one ran in
+    each round."""
+    last, rounds, runs = ["running"] * len(cluster.feeds), 0, True
+    while rounds < bound and runs:
+        last = [cluster.turn(k) for k in range(len(cluster.feeds))]
+        rounds, runs = rounds + 1, "running" in last
+    return last, runs
+
+
 def run_net(cores, feeds, bound):
     """The text that `net` prints after so many rounds at most, whether some core ran in each of so many, and the fault of the least
     core that is at one, or None."""
-    cluster, last, rounds, runs = Cluster(cores, feeds), ["running"] * len(cores), 0, True
-    while rounds < bound and runs:
-        last = [cluster.turn(k) for k in range(len(cores))]
-        rounds, runs = rounds + 1, "running" in last
+    cluster = Cluster(cores, feeds)
+    last, runs = rounds_of(cluster, bound)
     lines = [line for k in range(len(cores)) for line in (f"core {k}", *cluster.outputs[k], last[k])]
     faults = [tuple(map(int, line.split()[1:])) for line in last if line.startswith("fault")]
     return "".join(f"{line}\n" for line in lines), runs, faults[0] if faults else None

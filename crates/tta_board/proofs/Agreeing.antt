@@ -2,7 +2,7 @@
 use Rattle.std.proofs.Common.{◌≡◌, ℕ, List, [], ◌∷◌, length, map, Option, Some, sym, ap, ◌∙◌, subst}
 use Rattle.std.specs.Prelude.{slice_get}
 use Rattle.std.specs.List.{AllByRecursion}
-use Rattle.tta_board.specs.Cited.{IsPrefixOf, Units, data_in, Core, AreComparable, cluster_output, group_output, IsCore, Pair, IsPair, core_in, core_memory, program_memory}
+use Rattle.tta_board.specs.Cited.{IsPrefixOf, Units, data_in, Core, AreComparable, output_given, group_output, IsCore, Pair, IsPair, core_in, core_memory, program_memory}
 use Rattle.tta_list.proofs.Lists.{all_one}
 use Rattle.tta_list.proofs.Sets.{over-length}
 use Rattle.tta_cores.proofs.Pairs.{made_at, made_from, cores_agree}
@@ -33,20 +33,20 @@ module _ (u : Units) (pairs : List Pair) (feeds : List (Option ℕ)) (memories :
       )
 
 pub board_agrees : BoardAgrees
-board_agrees u pairs feeds memories k powers i last all same never clocks t less core p there =
-    let run = board_runs u (cores u pairs feeds memories all same) feeds memories (spaces u pairs feeds memories all same) k powers i last
-    (are_cores u pairs all) (are_spaces u pairs feeds memories all same) never clocks t less in
+board_agrees u pairs feeds given memories k powers i last all words same never clocks t less have core p there =
+    let run = board_runs u (cores u pairs feeds memories all same) feeds given memories (spaces u pairs feeds memories all same) k powers i
+    last (are_cores u pairs all) (are_spaces u pairs feeds memories all same) never clocks t less have in
     let put : put_by u (map core_in pairs) feeds memories k powers i core (core_in p) t
-    ≡ cluster_output u (map core_in pairs) feeds (map core_memory pairs) run.0 core =
+    ≡ output_given u (map core_in pairs) feeds given (map core_memory pairs) run.0 core =
     run.1.put core (core_in p) (made_at core_in pairs core p there) in
-    let agree = cores_agree u pairs feeds all in
+    let agree = cores_agree u pairs feeds given all words in
     let programs = map (λ (q : Pair). q.program) pairs in
     let begin = map program_memory pairs in
     record {
       comparable = λ others.
-          subst (λ (l : List ℕ). AreComparable l (group_output u programs feeds begin others core)) (sym put)
+          subst (λ (l : List ℕ). AreComparable l (group_output u programs feeds given begin others core)) (sym put)
           (agree.comparable run.0 others core);
       within = λ others rest.
-          subst (λ (l : List ℕ). IsPrefixOf l (group_output u programs feeds begin others core)) (sym put)
+          subst (λ (l : List ℕ). IsPrefixOf l (group_output u programs feeds given begin others core)) (sym put)
           (agree.within run.0 others core rest);
     }

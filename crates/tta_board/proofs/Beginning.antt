@@ -4,13 +4,13 @@ use Rattle.std.specs.Prelude.{slice_get, replicate, if◌then◌else◌}
 use Rattle.std.specs.Option.{option_map_or}
 use Rattle.std.specs.List.{AllByRecursion}
 use Rattle.tta_list.proofs.Lists.{all_one}
-use Rattle.tta_board.specs.Cited.{Units, State, start, Held, is_set, settled, clocked, Code, Data, Frame, IsReset, PutWord, word_of, Hardware, StandsFor, Pin, same_pin, queue_of, HasInside, BeginUpTo, Core, Joined, joined, output_of, cycles, first_states, IsCore}
+use Rattle.tta_board.specs.Cited.{Units, State, start, Held, is_set, settled, clocked, Code, Data, Frame, IsReset, PutWord, word_of, Hardware, StandsFor, Pin, same_pin, queue_of, HasInside, BeginUpTo, Core, Joined, joined, output_of, cycles, cycles_given, first_states, IsCore, new_words}
 use Rattle.tta_hardware.proofs.Circuits.{reset_is, goes_not, data_stays, frame_stays, rom_stays}
 use Rattle.tta_queue.specs.Queue as queue
 use Rattle.tta_queue.specs.Laws as buffer
-use Rattle.tta_queue.proofs.Running.{none_inside}
+use Rattle.tta_queue.proofs.Running.{none_inside, waited as waited_alone}
 use Rattle.tta_joint.proofs.Joining.{first_queued}
-use Rattle.tta_board.specs.Board.{Inputs, Powers, lines, core_first, core_after, board_at, put_by, AreBoardClocks}
+use Rattle.tta_board.specs.Board.{Inputs, Powers, lines, core_first, core_after, board_at, put_by, came_by, AreBoardClocks}
 use Rattle.tta_board.specs.Laws.{StandForCores, AreSpaces, BoardBegins}
 use Rattle.tta_board.proofs.Entering.{quiet}
 use Rattle.tta_board.proofs.Standing.{stands_anew}
@@ -41,6 +41,7 @@ module _ (u : Units) (cores : List Core) (feeds : List (Option ℕ)) (memories :
   abbrev starts : List (Joined State)
   starts = joined (first_states cores spaces)
 
+  -- what has come from outside makes no difference to what was put out
   pub silent : (core : ℕ) → output_of (cycles u cores feeds) starts core ≡ []
   silent core = by (slice_get cores core) refl where
     by : (o : Option Core) → slice_get cores core ≡ o → output_of (cycles u cores feeds) starts core ≡ []
@@ -110,18 +111,36 @@ module _ (u : Units) (cores : List Core) (feeds : List (Option ℕ)) (memories :
           (i t) core c PutWord ∷ [] else [])) none
           ∙ append-nil (put_by u cores feeds memories k powers i core c t) ∙ put_none core c there t (omega (arith, le))
 
+      begun : (core : ℕ) → BeginUpTo last (λ t. (i t).queues core)
+      begun core = record {
+        reset = λ t le. (clocks.wired t).reset core ∙ clocks.reset t le;
+        on = λ t less. (clocks.wired t).reset core ∙ clocks.on t less;
+      }
+
       empty : (core : ℕ) → HasInside (k core) ((board_at u cores feeds memories k powers i (suc last)).queues core) []
       empty core =
           subst (λ (h : Held Pin queue.Store). HasInside (k core) h []) (sym (queue_alone core (suc last)))
-          (none_inside u (k core) 32 (powers.queues core) (λ t. (i t).queues core) last begun)
-        where
-          begun : BeginUpTo last (λ t. (i t).queues core)
-          begun = record {
-            reset = λ t le. (clocks.wired t).reset core ∙ clocks.reset t le;
-            on = λ t less. (clocks.wired t).reset core ∙ clocks.on t less;
-          }
+          (none_inside u (k core) 32 (powers.queues core) (λ t. (i t).queues core) last (begun core))
 
-      pub first_stand : StandForCores u cores feeds memories k (board_at u cores feeds memories k powers i (suc last)) starts
+      -- the words that have come from outside are those that the queue by itself takes
+      came_alone : (core t : ℕ)
+          → came_by u cores feeds memories k powers i t core
+          ≡ buffer.taken u (k core) 32 (powers.queues core) (λ t. (i t).queues core) t
+      came_alone core zero = refl
+      came_alone core (suc t) =
+          ap (λ (h : Held Pin queue.Store). came_by u cores feeds memories k powers i t core
+          ++ new_words (settled same_pin u (queue_of (k core) 32) h ((i t).queues core))) (queue_alone core t)
+          ∙ ap (λ (ws : List ℕ). ws ++ new_words (buffer.pins u (k core) 32 (powers.queues core) (λ t. (i t).queues core) t))
+          (came_alone core t)
+
+      -- and none has come
+      pub none_came : (core : ℕ) → came_by u cores feeds memories k powers i (suc last) core ≡ []
+      none_came core =
+          came_alone core (suc last)
+          ∙ (waited_alone u (k core) 32 (powers.queues core) (λ t. (i t).queues core) last (begun core) (suc last) (omega arith)).untaken
+
+      pub first_stand : StandForCores u cores feeds memories k (came_by u cores feeds memories k powers i (suc last))
+          (board_at u cores feeds memories k powers i (suc last)) starts
       first_stand = record {
         each = λ core c there.
             let is = sized core c there in
@@ -139,10 +158,12 @@ module _ (u : Units) (cores : List Core) (feeds : List (Option ℕ)) (memories :
               fine = refl;
             };
         none = fresh_none cores spaces;
-        queued = first_queued (cycles u cores feeds) (first_states cores spaces) silent k
-            (board_at u cores feeds memories k powers i (suc last)).queues empty;
+        queued = first_queued (cycles_given u cores feeds (came_by u cores feeds memories k powers i (suc last)))
+            (first_states cores spaces) silent none_came k (board_at u cores feeds memories k powers i (suc last)).queues empty;
       }
 
 pub board_begins : BoardBegins
-board_begins u cores feeds memories spaces k powers i last all sized clocks =
-    first_stand u cores feeds memories spaces k sized powers i last all clocks
+board_begins u cores feeds memories spaces k powers i last all sized clocks = (
+  none_came u cores feeds memories spaces k sized powers i last all clocks,
+  first_stand u cores feeds memories spaces k sized powers i last all clocks,
+)

@@ -3,12 +3,12 @@ use Rattle.std.proofs.Common.{◌≡◌, ℕ, Bool, true, false, ◌&&◌, List,
 use Rattle.std.specs.Prelude.{slice_get, if◌then◌else◌}
 use Rattle.std.specs.Option.{option_map_or}
 use Rattle.std.specs.List.{AllByRecursion}
-use Rattle.tta_board.specs.Cited.{Units, State, next, is_set, Asks, Puts, PutWord, Hardware, StandsFor, is_fault, is_waiting, HasStepped, Pin, InData, OutReady, OutValid, OutData, gives, Core, Network, Joined, output_of, feeder_of, after_step, stepped, interleaved, cycles, IsCore, UsesQueues, is_among, StepAtOnce, seen, new_words, CoresClock, waiting_for, IsShown}
+use Rattle.tta_board.specs.Cited.{Units, State, next, is_set, Asks, Puts, PutWord, Hardware, StandsFor, is_fault, is_waiting, HasStepped, Pin, InData, OutReady, OutValid, OutData, gives, Core, Network, Joined, output_of, feeder_of, after_step, stepped, interleaved, cycles_given, IsCore, HaveCome, UsesQueues, is_among, StepAtOnce, seen, new_words, CoresClock, waiting_for, IsShown}
 use Rattle.tta_hardware.specs.Signals.{Signal as Named}
 use Rattle.tta_hardware.proofs.Circuits.{words_stay, data_stays, frame_stays, rom_stays}
 use Rattle.tta_cores.proofs.CoreQueues.{cores_use}
 use Rattle.tta_joint.proofs.AtOnce.{in_turn, none_in_turn, stepped_goes}
-use Rattle.tta_joint.proofs.Joining.{seen_first, joint_clock}
+use Rattle.tta_joint.proofs.Joining.{seen_first, shown_of_all, joint_clock}
 use Rattle.tta_board.specs.Board.{Board, Inputs, lines, pins_of, AreWired, core_after, board_after}
 use Rattle.tta_board.specs.Laws.{StandsAmong, StandForCores, AreFine, HasClocked, BoardClock}
 use Rattle.tta_board.proofs.Going.{places_apart}
@@ -17,14 +17,20 @@ use Rattle.tta_board.proofs.Passing as passing
 use Rattle.tta_board.proofs.Making as making
 use Rattle.tta_board.proofs.Standing.{stands_too, same_waits}
 
-module _ (u : Units) (cores : List Core) (feeds : List (Option ℕ)) (memories : ℕ → List ℕ) (k : ℕ → ℕ) (b : Board) (i : Inputs)
-    (joined : List (Joined State)) (all : AllByRecursion IsCore cores) (wired : AreWired u cores feeds memories k b i)
-    (on : i.reset ≡ false) (stand : StandForCores u cores feeds memories k b joined) (fine : AreFine u cores feeds memories k joined) where
+module _ (u : Units) (cores : List Core) (feeds : List (Option ℕ)) (memories : ℕ → List ℕ) (k : ℕ → ℕ) (given came : ℕ → List ℕ)
+    (b : Board) (i : Inputs) (joined : List (Joined State)) (all : AllByRecursion IsCore cores)
+    (have : HaveCome (cycles_given u cores feeds given) came) (wired : AreWired u cores feeds memories k b i)
+    (on : i.reset ≡ false) (stand : StandForCores u cores feeds memories k came b joined)
+    (fine : AreFine u cores feeds memories k came joined) where
   abbrev net : Network State
-  net = cycles u cores feeds
+  net = cycles_given u cores feeds given
+
+  -- the network where only this has come from outside
+  abbrev so_far : Network State
+  so_far = cycles_given u cores feeds came
 
   uses : UsesQueues net
-  uses = cores_use u cores all feeds
+  uses = cores_use u cores all feeds given
 
   abbrev env : ℕ → Pin → ℕ
   env core = pins_of u cores feeds memories k b i core
@@ -57,11 +63,11 @@ module _ (u : Units) (cores : List Core) (feeds : List (Option ℕ)) (memories :
 
   step_is : (core : ℕ) (c : Core) (j : Joined State) → slice_get cores core ≡ Some c
       → after_step net core (shown core) j ≡ next u c.machine c.code (at core j)
-  step_is core c j there = making.step_is u cores feeds memories k b i joined all wired on stand fine core c j there
+  step_is core c j there = making.step_is u cores feeds memories k came b i joined all wired on stand fine core c j there
 
   makes : (core : ℕ) (c : Core) → slice_get cores core ≡ Some c → (s : Among core c) → goes_at core c ≡ true
       → HasStepped u c.machine c.code (held core c) (line core c) (at core s.now) (next u c.machine c.code (at core s.now))
-  makes core c there s goes = making.makes u cores feeds memories k b i joined all wired on stand fine core c there s goes
+  makes core c there s goes = making.makes u cores feeds memories k came b i joined all wired on stand fine core c there s goes
 
   -- what is at a core's place is what its circuit stands for
   record Which (core : ℕ) (j : Joined State) : Type 0 where
@@ -89,9 +95,10 @@ module _ (u : Units) (cores : List Core) (feeds : List (Option ℕ)) (memories :
   are_shown : (core : ℕ) (j : Joined State) → is_among core going ≡ true → slice_get joined core ≡ Some j
       → IsShown net joined core (shown core) j
   are_shown core j among there =
-      let shows = making.shows u cores feeds memories k b i joined all wired on stand fine core j there in
-      let first = seen_first (k core) (env core) (waiting_for net joined core j) shows in
-      record { within = (stand.queued core j there).within; later = first.0; begins = first.1; goes = waits_not core j among there }
+      let shows = making.shows u cores feeds memories k came b i joined all wired on stand fine core j there in
+      let first = seen_first (k core) (env core) (waiting_for so_far joined core j) shows in
+      shown_of_all net came have joined core (shown core) j
+      (record { within = (stand.queued core j there).within; later = first.0; begins = first.1; goes = waits_not core j among there })
 
   abbrev after : List (Joined State)
   after = interleaved net joined going
@@ -181,7 +188,6 @@ module _ (u : Units) (cores : List Core) (feeds : List (Option ℕ)) (memories :
     asks = asks;
     stays = passing.stays u cores feeds memories k b i wired;
     puts = puts;
-    unfed = λ core none. passing.not_taken u cores feeds memories k b i wired core (wired.unfed core none);
   }
 
   -- ---- after it
@@ -215,7 +221,7 @@ module _ (u : Units) (cores : List Core) (feeds : List (Option ℕ)) (memories :
           goes_on = ap (λ (t : State). is_waiting t.outcome) is ∙ has.goes_on;
           fine =
               ap (λ (t : State). is_fault t.outcome) is
-              ∙ making.fine_at u cores feeds memories k b i joined all wired on stand fine core c s there;
+              ∙ making.fine_at u cores feeds memories k came b i joined all wired on stand fine core c s there;
         }
     by false stops = record {
       now = s.now;
@@ -231,19 +237,19 @@ module _ (u : Units) (cores : List Core) (feeds : List (Option ℕ)) (memories :
       fine = s.fine;
     }
 
-  clocked : HasClocked u cores feeds memories k b i joined
+  clocked : HasClocked u cores feeds memories k given came b i joined
   clocked = record {
     going = going;
     exactly = among_goes;
     stand = record {
       each = stands_after;
       none = λ core none. at_once.none core (stand.none core none);
-      queued = (joint_clock State net uses u k 32 b.queues i.queues going joined after stand.queued
+      queued = (joint_clock State net uses came have u k 32 b.queues i.queues going joined after stand.queued
           (λ core. wired.reset core ∙ on) clock).1;
     };
     puts = put_out;
   }
 
 pub board_clock : BoardClock
-board_clock u cores feeds memories k b i joined all wired on stand fine =
-    clocked u cores feeds memories k b i joined all wired on stand fine
+board_clock u cores feeds memories k given came b i joined all have wired on stand fine =
+    clocked u cores feeds memories k given came b i joined all have wired on stand fine

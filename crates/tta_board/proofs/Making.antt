@@ -5,7 +5,7 @@ use Rattle.std.specs.Option.{option_map_or}
 use Rattle.std.specs.List.{AllByRecursion}
 use Rattle.std.proofs.lemmas.Bool.{false≢true}
 use Rattle.tta_list.proofs.Lists.{all_one}
-use Rattle.tta_board.specs.Cited.{Units, State, Outcome, Running, Halted, Waiting, Fault, next, is_set, Hardware, is_halted, is_fault, is_waiting, HasStepped, Pin, Shows, Core, Network, Joined, after_step, cycles, IsCore, UsesQueues, seen, waiting_for}
+use Rattle.tta_board.specs.Cited.{Units, State, Outcome, Running, Halted, Waiting, Fault, next, is_set, Hardware, is_halted, is_fault, is_waiting, HasStepped, Pin, Shows, Core, Network, Joined, after_step, cycles_given, IsCore, UsesQueues, seen, waiting_for}
 use Rattle.tta_hardware.specs.Signals.{Signal as Named}
 use Rattle.tta_hardware.proofs.Stepping.{one_clock}
 use Rattle.tta_hardware.proofs.Circuits.{is_settled, has_clocked, has_stored}
@@ -19,14 +19,15 @@ use Rattle.tta_board.proofs.Entering.{halts}
 use Rattle.tta_board.proofs.Passing as passing
 use Rattle.tta_board.proofs.Standing.{stands_too, fault_goes}
 
-module _ (u : Units) (cores : List Core) (feeds : List (Option ℕ)) (memories : ℕ → List ℕ) (k : ℕ → ℕ) (b : Board) (i : Inputs)
-    (joined : List (Joined State)) (all : AllByRecursion IsCore cores) (wired : AreWired u cores feeds memories k b i)
-    (on : i.reset ≡ false) (stand : StandForCores u cores feeds memories k b joined) (fine : AreFine u cores feeds memories k joined) where
+module _ (u : Units) (cores : List Core) (feeds : List (Option ℕ)) (memories : ℕ → List ℕ) (k : ℕ → ℕ) (came : ℕ → List ℕ) (b : Board)
+    (i : Inputs) (joined : List (Joined State)) (all : AllByRecursion IsCore cores) (wired : AreWired u cores feeds memories k b i)
+    (on : i.reset ≡ false) (stand : StandForCores u cores feeds memories k came b joined)
+    (fine : AreFine u cores feeds memories k came joined) where
   abbrev net : Network State
-  net = cycles u cores feeds
+  net = cycles_given u cores feeds came
 
   uses : UsesQueues net
-  uses = cores_use u cores all feeds
+  uses = cores_use u cores all feeds came
 
   abbrev env : ℕ → Pin → ℕ
   env core = pins_of u cores feeds memories k b i core

@@ -9,7 +9,7 @@ use Rattle.tta_hardware.proofs.Chained.{set_bit}
 use Rattle.tta_queue.specs.Queue as queue
 use Rattle.tta_queue.proofs.Clocking.{queue_looks}
 use Rattle.tta_board.specs.Board.{Board, Inputs, Powers, have_room, pins_of, IsWiredCore, AreWired, board_after, board_at, AreBoardClocks}
-use Rattle.tta_board.specs.Laws.{BoardSettles}
+use Rattle.tta_board.specs.Laws.{Surroundings, ComesFrom, BoardSettles}
 
 -- queues with the same room
 room_alike : (ready other : ℕ → Bool) → ((core : ℕ) → ready core ≡ other core) → (feeder core : ℕ) (feeds : List (Option ℕ))
@@ -23,7 +23,7 @@ module _ (u : Units) (cores : List Core) (feeds : List (Option ℕ)) (memories :
   abbrev net : Network State
   net = cycles u cores feeds
 
-  module _ (b : Board) (reset : Bool) (outside : ℕ → Bool) where
+  module _ (b : Board) (reset : Bool) (outside : Surroundings) where
     -- ---- what queues show, first
 
     abbrev reset_alone : Pin → ℕ
@@ -38,7 +38,7 @@ module _ (u : Units) (cores : List Core) (feeds : List (Option ℕ)) (memories :
     abbrev core_inputs : (core : ℕ) → Named → ℕ
     core_inputs core IsOffered = look core OutValid
     core_inputs core Offer = look core OutData
-    core_inputs core IsReady = bit (outside core && have_room (λ other. is_set (look other InReady)) core 0 feeds)
+    core_inputs core IsReady = bit (outside.takes core && have_room (λ other. is_set (look other InReady)) core 0 feeds)
     core_inputs core IsReset = bit reset
     core_inputs core n = 0
 
@@ -47,21 +47,22 @@ module _ (u : Units) (cores : List Core) (feeds : List (Option ℕ)) (memories :
 
     -- ---- then what queues take and give
 
-    abbrev from_core : (signal : Named) → Option ℕ → ℕ
-    from_core signal o = option_map_or (λ feeder. option_map_or (λ f. line feeder f signal) (slice_get cores feeder) 0) o 0
+    -- a queue that no core feeds is offered this word from outside
+    abbrev from_core : (signal : Named) → (other : ℕ) → Option ℕ → ℕ
+    from_core signal other o = option_map_or (λ feeder. option_map_or (λ f. line feeder f signal) (slice_get cores feeder) 0) o other
 
     abbrev to_core : (core : ℕ) → Option Core → ℕ
     to_core core o = option_map_or (λ c. bit (is_set (line core c Goes) && is_set (line core c Asks))) o 0
 
     abbrev queue_inputs : (core : ℕ) → Pin → ℕ
-    queue_inputs core InValid = from_core Puts (feeder_of net core)
-    queue_inputs core InData = from_core PutWord (feeder_of net core)
+    queue_inputs core InValid = from_core Puts (bit (outside.offers core)) (feeder_of net core)
+    queue_inputs core InData = from_core PutWord (outside.word core) (feeder_of net core)
     queue_inputs core OutReady = to_core core (slice_get cores core)
     queue_inputs core queue.IsReset = bit reset
     queue_inputs core p = 0
 
     abbrev pub inputs_of : Inputs
-    inputs_of = record { cores = core_inputs; queues = queue_inputs; reset = reset; outside = outside }
+    inputs_of = record { cores = core_inputs; queues = queue_inputs; reset = reset; outside = outside.takes }
 
     -- ---- they are wired
 
@@ -81,34 +82,44 @@ module _ (u : Units) (cores : List Core) (feeds : List (Option ℕ)) (memories :
       offered = ap is_set (sym (looks core).valid);
       offer = sym (looks core).word;
       ready =
-          set_bit (outside core && have_room (λ other. is_set (look other InReady)) core 0 feeds)
-          ∙ ap (λ r. outside core && r) (room_alike (λ other. is_set (look other InReady))
+          set_bit (outside.takes core && have_room (λ other. is_set (look other InReady)) core 0 feeds)
+          ∙ ap (λ r. outside.takes core && r) (room_alike (λ other. is_set (look other InReady))
           (λ other. is_set (pins_of u cores feeds memories k b inputs_of other InReady))
           (λ other. ap is_set (sym (looks other).ready)) core 0 feeds);
       reset = set_bit reset;
       asked = ap (λ o. is_set (to_core core o)) there ∙ set_bit (is_set (line core c Goes) && is_set (line core c Asks));
     }
 
-    from_one : (signal : Named) (core feeder : ℕ) (f : Core) → feeder_of net core ≡ Some feeder → slice_get cores feeder ≡ Some f
-        → from_core signal (feeder_of net core) ≡ line feeder f signal
-    from_one signal core feeder f feeds_it there =
-        ap (from_core signal) feeds_it ∙ ap (λ o. option_map_or (λ f. line feeder f signal) o 0) there
+    from_one : (signal : Named) (other core feeder : ℕ) (f : Core) → feeder_of net core ≡ Some feeder → slice_get cores feeder ≡ Some f
+        → from_core signal other (feeder_of net core) ≡ line feeder f signal
+    from_one signal other core feeder f feeds_it there =
+        ap (from_core signal other) feeds_it ∙ ap (λ o. option_map_or (λ f. line feeder f signal) o 0) there
 
     pub wired : AreWired u cores feeds memories k b inputs_of
     wired = record {
       each = each;
       unasked = λ core none. ap (λ o. is_set (to_core core o)) none;
-      fed = λ core feeder f feeds_it there.
-          (ap is_set (from_one Puts core feeder f feeds_it there), from_one PutWord core feeder f feeds_it there);
+      fed = λ core feeder f feeds_it there. (
+        ap is_set (from_one Puts (bit (outside.offers core)) core feeder f feeds_it there),
+        from_one PutWord (outside.word core) core feeder f feeds_it there,
+      );
       no_core = λ core feeder feeds_it none.
-          ap (λ o. is_set (from_core Puts o)) feeds_it ∙ ap (λ o. is_set (option_map_or (λ f. line feeder f Puts) o 0)) none;
-      unfed = λ core none. ap (λ o. is_set (from_core Puts o)) none;
+          ap (λ o. is_set (from_core Puts (bit (outside.offers core)) o)) feeds_it
+          ∙ ap (λ o. is_set (option_map_or (λ f. line feeder f Puts) o 0)) none;
       reset = λ core. set_bit reset;
+    }
+
+    -- and what the outside does comes in
+    pub comes : ComesFrom u cores feeds outside inputs_of
+    comes = record {
+      takes = λ core. refl;
+      offers = λ core none. ap (λ o. is_set (from_core Puts (bit (outside.offers core)) o)) none ∙ set_bit (outside.offers core);
+      word = λ core none. ap (from_core PutWord (outside.word core)) none;
     }
 
   -- ---- clock by clock
 
-  module _ (powers : Powers) (last : ℕ) (outside : ℕ → ℕ → Bool) where
+  module _ (powers : Powers) (last : ℕ) (outside : ℕ → Surroundings) where
     abbrev run : ℕ → Board
     run zero = board_at u cores feeds memories k powers (λ t. record {
       cores = λ core n. 0;
@@ -136,8 +147,8 @@ module _ (u : Units) (cores : List Core) (feeds : List (Option ℕ)) (memories :
       past t less false is = refl
 
     settles : (i : ℕ → Inputs) ×
-        (AreBoardClocks u cores feeds memories k powers i last × ((t core : ℕ) → (i t).outside core ≡ outside t core))
-    settles = (inputs, (clocks, λ t core. refl))
+        (AreBoardClocks u cores feeds memories k powers i last × ((t : ℕ) → ComesFrom u cores feeds (outside t) (i t)))
+    settles = (inputs, (clocks, λ t. comes (run t) (nat_le t last) (outside t)))
 
 pub board_settles : BoardSettles
 board_settles u cores feeds memories k powers last outside = settles u cores feeds memories k powers last outside

@@ -1,7 +1,7 @@
 -- Machines as circuits that are joined by queues as circuits, all under one clock.
 use Rattle.std.specs.Prelude.{◌≡◌, ℕ, zero, suc, ◌<◌, ◌≤◌, ◌==◌, Bool, true, false, not, ◌&&◌, ◌||◌, List, [], ◌∷◌, ◌++◌, Option, Some, None, slice_get, if◌then◌else◌}
 use Rattle.std.specs.Option.{option_map_or}
-use Rattle.tta_board.specs.Cited.{Units, Held, is_set, settled, clocked, powered, IsOffered, Offer, IsReady, IsReset, Asks, Goes, Puts, PutWord, same_signal, same_store, circuit_of, Hardware, Pin, InValid, InData, OutReady, InReady, OutValid, OutData, same_pin, queue_of, Core, feeder_of, cycles}
+use Rattle.tta_board.specs.Cited.{Units, Held, is_set, settled, clocked, powered, IsOffered, Offer, IsReady, IsReset, Asks, Goes, Puts, PutWord, same_signal, same_store, circuit_of, Hardware, Pin, InValid, InData, OutReady, InReady, OutValid, OutData, same_pin, queue_of, Core, no_input, feeder_of, cycles, come_with}
 use Rattle.tta_hardware.specs.Signals.{Signal as Named}
 use Rattle.tta_queue.specs.Queue as queue
 
@@ -12,8 +12,8 @@ pub record Board : Type 0 where
   pub cores : ℕ → Hardware
   pub queues : ℕ → Held Pin queue.Store
 
--- What comes in at a clock: the inputs of each core's circuit and of the queue before it; whether all of them begin anew; and whether
--- the outside would take a word that a core puts out.
+-- What comes in at a clock: the inputs of each core's circuit and of the queue before it, among them what the outside offers to the queue
+-- of a core that no other feeds; whether all of them begin anew; and whether the outside would take a word that a core puts out.
 pub record Inputs : Type 0 where
   pub cores : ℕ → Named → ℕ
   pub queues : ℕ → Pin → ℕ
@@ -56,7 +56,8 @@ module _ (u : Units) (cores : List Core) (feeds : List (Option ℕ)) (memories :
     pub reset : is_set (i.cores core IsReset) ≡ i.reset
     pub asked : is_set (i.queues core OutReady) ≡ (is_set (lines b i core c Goes) && is_set (lines b i core c Asks))
 
-  -- The wires between circuits: each queue is offered what the core's feeder puts out, if it has one, and is asked by its core alone.
+  -- The wires between circuits: each queue is offered what the core's feeder puts out, if it has one, and is asked by its core alone. The
+  -- queue of a core that no other feeds is offered whatever the outside offers.
   pub record AreWired (b : Board) (i : Inputs) : Type 0 where
     pub each : (core : ℕ) (c : Core) → slice_get cores core ≡ Some c → IsWiredCore b i core c
     pub unasked : (core : ℕ) → slice_get cores core ≡ None → is_set (i.queues core OutReady) ≡ false
@@ -64,7 +65,6 @@ module _ (u : Units) (cores : List Core) (feeds : List (Option ℕ)) (memories :
         → (is_set (i.queues core InValid) ≡ is_set (lines b i feeder f Puts)) × (i.queues core InData ≡ lines b i feeder f PutWord)
     pub no_core : (core feeder : ℕ) → feeder_of (cycles u cores feeds) core ≡ Some feeder → slice_get cores feeder ≡ None
         → is_set (i.queues core InValid) ≡ false
-    pub unfed : (core : ℕ) → feeder_of (cycles u cores feeds) core ≡ None → is_set (i.queues core InValid) ≡ false
     pub reset : (core : ℕ) → is_set (i.queues core queue.IsReset) ≡ i.reset
 
   -- ---- clocks
@@ -102,6 +102,11 @@ module _ (u : Units) (cores : List Core) (feeds : List (Option ℕ)) (memories :
     put_by core c (suc t) =
         put_by core c t
         ++ (if is_set (lines (board_at t) (i t) core c Puts) then lines (board_at t) (i t) core c PutWord ∷ [] else [])
+
+    -- The words that the queue of each core has taken at these clocks: of a core that no other feeds, what has come from outside.
+    abbrev pub came_by : ℕ → ℕ → List ℕ
+    came_by zero = no_input
+    came_by (suc t) = come_with (came_by t) (pins_of (board_at t) (i t))
 
     -- Clocks of a board whose circuits are wired: those up to a number begin anew, and no later one does.
     pub record AreBoardClocks (last : ℕ) : Type 0 where

@@ -20,8 +20,9 @@ module _ {S : Type 0} (net : Network S) where
   pub fed_grows : (cores later : List (Joined S)) → ((core : ℕ) → IsPrefixOf (output_of net cores core) (output_of net later core)) → (core : ℕ)
       → IsPrefixOf (fed_to net cores core) (fed_to net later core)
   fed_grows cores later grows core = by (feeder_of net core) where
-    by : (o : Option ℕ) → IsPrefixOf (option_map_or (output_of net cores) o []) (option_map_or (output_of net later) o [])
-    by None = ([], refl)
+    by : (o : Option ℕ)
+        → IsPrefixOf (option_map_or (output_of net cores) o (net.given core)) (option_map_or (output_of net later) o (net.given core))
+    by None = prefix_same _ _ refl
     by (Some feeder) = grows feeder
 
   -- ---- one step

@@ -13,7 +13,7 @@ use Rattle.tta_arch.specs.Effects.{takes}
 use Rattle.tta_code.specs.Cycle.{State, Outcome, Running, Halted, Waiting, waits, carry_out, next_of, next}
 use Rattle.tta_cores.specs.declared.cores.Core.{Core}
 use Rattle.tta_cores.specs.Queues.{UsesQueues}
-use Rattle.tta_cores.specs.Cluster.{is_waiting, cycle_of, cycles}
+use Rattle.tta_cores.specs.Cluster.{is_waiting, cycle_of, cycles_given}
 use Rattle.tta_cores.specs.Laws.{IsCore}
 use Rattle.tta_cores.proofs.ProgramQueues.{first_more, index_more, one_off}
 use Rattle.tta_cores.proofs.Takes.{started_by, leaves, leaves_more}
@@ -218,8 +218,8 @@ module _ (u : Units) (cores : List Core) (all : AllByRecursion IsCore cores) whe
     by None at = refl
     by (Some c) at = let is = all_one IsCore cores core c all at in next_stays u c.machine c.code is.machine is.legal s waits
 
-  pub cores_use : (feeds : List (Option ℕ)) → UsesQueues (cycles u cores feeds)
-  cores_use feeds = record {
+  pub cores_use : (feeds : List (Option ℕ)) (given : ℕ → List ℕ) → UsesQueues (cycles_given u cores feeds given)
+  cores_use feeds given = record {
     rest_is = λ s words. refl;
     again = λ s words others. refl;
     itself = λ s. refl;

@@ -11,9 +11,10 @@ use Rattle.tta_cores.specs.Programs.{step_of, steps_of}
 use Rattle.tta_cores.proofs.Clusters.{next_core, turn_none, turn_some}
 use Rattle.tta_cores.proofs.ProgramWords.{KeepsWords, drop_words, next_words}
 
-module _ (u : Units) (programs : List Program) (rules : AllByRecursion IsProgram programs) (feeds : List (Option ℕ)) where
+module _ (u : Units) (programs : List Program) (rules : AllByRecursion IsProgram programs) (feeds : List (Option ℕ)) (given : ℕ → List ℕ)
+    (given_words : (core : ℕ) → AreWords (given core)) where
   abbrev net : Network State
-  net = steps_of u programs feeds
+  net = steps_of u programs feeds given
 
   -- all that the programs keep are words
   abbrev pub AllKeep : List (Joined State) → Type 0
@@ -27,8 +28,8 @@ module _ (u : Units) (programs : List Program) (rules : AllByRecursion IsProgram
 
   fed_words : (cores : List (Joined State)) → AllKeep cores → (core : ℕ) → AreWords (fed_to net cores core)
   fed_words cores keep core = by (feeder_of net core) where
-    by : (o : Option ℕ) → AreWords (option_map_or (output_of net cores) o [])
-    by None = tt
+    by : (o : Option ℕ) → AreWords (option_map_or (output_of net cores) o (given core))
+    by None = given_words core
     by (Some feeder) = output_words cores keep feeder
 
   step_words : (core : ℕ) (s : State) → KeepsWords s → KeepsWords (step_of u programs core s)

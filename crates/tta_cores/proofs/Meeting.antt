@@ -15,9 +15,11 @@ use Rattle.tta_cores.proofs.Clusters.{output_at, next_core, turn_none, turn_here
 use Rattle.tta_cores.proofs.Reaching.{AreFresh, joined_at, past_first, past_of, catches_up}
 
 -- What the core outputs on an input, the other outputs on it too: of any core of the one network, and the core of the other that
--- has its number. And all that is fed to the cores of the other is such an input.
+-- has its number. What a core of the one is given from outside begins what that of the other is, and all that is fed to the cores of
+-- the other is such an input.
 pub record Does {S T : Type 0} (net : Network S) (starts : List S) (other : Network T) (others : List T) (IsInput : List ℕ → Type 0) : Type 0 where
   pub feeds : net.feeds ≡ other.feeds
+  pub given : (core : ℕ) → IsPrefixOf (net.given core) (other.given core)
   pub there : (core : ℕ) (s : S) → slice_get starts core ≡ Some s → (t : T) × (slice_get others core ≡ Some t)
   pub puts : (core : ℕ) (s : S) (t : T) → slice_get starts core ≡ Some s → slice_get others core ≡ Some t → (input : List ℕ) → IsInput input → (n : ℕ)
       → (m : ℕ) × IsPrefixOf (put_by net core s input n) (put_by other core t input m)
@@ -67,10 +69,12 @@ module _ {S T : Type 0} (net : Network S) (uses : UsesQueues net) (starts : List
   fed_ahead : (cores : List (Joined S)) (steps : List ℕ) (core : ℕ) → IsAhead cores steps → IsPrefixOf (fed_to net cores core) (fed_to other (after steps) core)
   fed_ahead cores steps core ahead =
       prefix_chain _ _ _ (by (feeder_of net core))
-      (prefix_same _ _ (ap (λ fs. option_map_or (output_of other (after steps)) (option_map_or (λ o. o) (slice_get fs core) None) []) does.feeds))
+      (prefix_same _ _ (ap (λ fs. option_map_or (output_of other (after steps)) (option_map_or (λ o. o) (slice_get fs core) None)
+      (other.given core)) does.feeds))
     where
-      by : (o : Option ℕ) → IsPrefixOf (option_map_or (output_of net cores) o []) (option_map_or (output_of other (after steps)) o [])
-      by None = prefix_same _ _ refl
+      by : (o : Option ℕ)
+          → IsPrefixOf (option_map_or (output_of net cores) o (net.given core)) (option_map_or (output_of other (after steps)) o (other.given core))
+      by None = does.given core
       by (Some feeder) = ahead feeder
 
   -- where a core of the one steps, that of the other catches up

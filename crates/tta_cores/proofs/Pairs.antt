@@ -10,7 +10,7 @@ use Rattle.tta_program.specs.Sequential as program
 use Rattle.tta_code.specs.Cycle.{State, next, start}
 use Rattle.tta_cores.specs.declared.cores.Core.{Core}
 use Rattle.tta_cores.specs.Network.{Network, Joined, output_of, feeder_of, fed_to, interleaved, joined}
-use Rattle.tta_cores.specs.Cluster.{cycles, cycle_of, first_states}
+use Rattle.tta_cores.specs.Cluster.{cycles_given, cycle_of, first_states}
 use Rattle.tta_cores.specs.Programs as programs
 use Rattle.tta_cores.specs.Laws.{IsCore, Pair, IsPair, core_in, core_memory, program_memory, CoresAgree}
 use Rattle.tta_cores.proofs.OneCore.{run, put_by}
@@ -42,7 +42,8 @@ all_made : {A B : Type 0} (P : A → Type 0) (Q : B → Type 0) (f : A → B) �
 all_made P Q f tells [] all = tt
 all_made P Q f tells (x ∷ xs) all = (tells x all.0, all_made P Q f tells xs all.1)
 
-module _ (u : Units) (pairs : List Pair) (feeds : List (Option ℕ)) (all : AllByRecursion (IsPair u) pairs) where
+module _ (u : Units) (pairs : List Pair) (feeds : List (Option ℕ)) (given : ℕ → List ℕ) (all : AllByRecursion (IsPair u) pairs)
+    (given_words : (core : ℕ) → AreWords (given core)) where
   abbrev cores : List Core
   cores = map core_in pairs
 
@@ -50,10 +51,10 @@ module _ (u : Units) (pairs : List Pair) (feeds : List (Option ℕ)) (all : AllB
   ps = map (λ p. p.program) pairs
 
   abbrev net : Network State
-  net = cycles u cores feeds
+  net = cycles_given u cores feeds given
 
   abbrev other : Network program.State
-  other = programs.steps_of u ps feeds
+  other = programs.steps_of u ps feeds given
 
   abbrev begin_core : Pair → State
   begin_core p = start p.machine (core_memory p) []
@@ -91,8 +92,9 @@ module _ (u : Units) (pairs : List Pair) (feeds : List (Option ℕ)) (all : AllB
   of_program : (core : ℕ) (t : program.State) → slice_get others core ≡ Some t → (p : Pair) × (slice_get pairs core ≡ Some p) × (begin_program p ≡ t)
   of_program core t at = made_from begin_program pairs core t (ap (λ xs. slice_get xs core) (sym others_are) ∙ at)
 
-  given : (core : ℕ) (p : Pair) → slice_get pairs core ≡ Some p → (input : List ℕ) → AreWords input → IsGiven p.machine p.memory input
-  given core p at input words = let is = all_one (IsPair u) pairs core p all at in record { size = is.size; words = is.words; inputs = words }
+  is_given : (core : ℕ) (p : Pair) → slice_get pairs core ≡ Some p → (input : List ℕ) → AreWords input → IsGiven p.machine p.memory input
+  is_given core p at input words =
+      let is = all_one (IsPair u) pairs core p all at in record { size = is.size; words = is.words; inputs = words }
 
   one_pair : (core : ℕ) (p q : Pair) → slice_get pairs core ≡ Some p → slice_get pairs core ≡ Some q → p ≡ q
   one_pair core p q at at' = let e : Some p ≡ Some q = sym at ∙ at' in cc
@@ -102,7 +104,7 @@ module _ (u : Units) (pairs : List Pair) (feeds : List (Option ℕ)) (all : AllB
   programs_rules : AllByRecursion IsProgram ps
   programs_rules = all_made (IsPair u) IsProgram (λ p. p.program) (λ p is. is.program) pairs all
 
-  keep_first : AllKeep u ps programs_rules feeds (joined others)
+  keep_first : AllKeep u ps programs_rules feeds given given_words (joined others)
   keep_first core c at =
       let of = made_from (λ (s : program.State). record { state = s; taken = 0 }) others core c at in
       let pair = of_program core of.0 of.1 in
@@ -111,13 +113,14 @@ module _ (u : Units) (pairs : List Pair) (feeds : List (Option ℕ)) (all : AllB
       subst (λ (x : Joined program.State). KeepsWords x.state) of.2 (subst KeepsWords pair.2 words)
 
   output_words : (steps : List ℕ) (core : ℕ) → AreWords (output_of other (interleaved other (joined others) steps) core)
-  output_words steps core = all_words u ps programs_rules feeds (joined others) steps keep_first core
+  output_words steps core = all_words u ps programs_rules feeds given given_words (joined others) steps keep_first core
 
   -- ---- what cores do, programs do
 
   does : Does net starts other others AreWords
   does = record {
     feeds = refl;
+    given = λ core. prefix_same _ _ refl;
     there = λ core s at.
         let of = of_core core s at in
         (begin_program of.0, ap (λ xs. slice_get xs core) others_are ∙ made_at begin_program pairs core of.0 of.1);
@@ -130,15 +133,15 @@ module _ (u : Units) (pairs : List Pair) (feeds : List (Option ℕ)) (all : AllB
         let t_is : begin_program a.0 ≡ t = ap begin_program (sym same) ∙ b.2 in (
           m,
           prefix_chain _ _ _ (prefix_same _ _ (sym (ap (λ x. put_by net core x input n) a.2) ∙ ap (λ x. x.output) (core_run core a.0 a.1 input n)))
-              (prefix_chain _ _ _ (is.agrees.output_only a.0.memory input n (given core a.0 a.1 input words))
+              (prefix_chain _ _ _ (is.agrees.output_only a.0.memory input n (is_given core a.0 a.1 input words))
               (prefix_same _ _ (sym (ap (λ x. x.output) (program_run core a.0 a.1 input m)) ∙ ap (λ x. put_by other core x input m) t_is))),
         );
     inputs = fed;
   } where
     fed : (steps : List ℕ) (core : ℕ) → AreWords (fed_to other (interleaved other (joined others) steps) core)
     fed steps core = by (feeder_of other core) where
-      by : (o : Option ℕ) → AreWords (option_map_or (output_of other (interleaved other (joined others) steps)) o [])
-      by None = tt
+      by : (o : Option ℕ) → AreWords (option_map_or (output_of other (interleaved other (joined others) steps)) o (given core))
+      by None = given_words core
       by (Some feeder) = output_words steps feeder
 
   cores_all : AllByRecursion IsCore cores
@@ -146,14 +149,15 @@ module _ (u : Units) (pairs : List Pair) (feeds : List (Option ℕ)) (all : AllB
 
   core_words : (steps : List ℕ) (core : ℕ) → AreWords (output_of net (interleaved net (joined starts) steps) core)
   core_words steps core =
-      let reach = reaches net (cores_use u cores cores_all feeds) starts (cores_fresh u cores feeds (map core_memory pairs))
-      other (programs_use u ps feeds) others (programs_fresh u ps feeds (map program_memory pairs)) AreWords does steps [] in
+      let reach = reaches net (cores_use u cores cores_all feeds given) starts (cores_fresh u cores feeds given (map core_memory pairs))
+      other (programs_use u ps feeds given) others (programs_fresh u ps feeds given (map program_memory pairs)) AreWords does steps [] in
       let begins = reach.1 core in
       prefix_words _ begins.0 (subst AreWords begins.1 (output_words ([] ++ reach.0) core))
 
   does_too : Does other others net starts AreWords
   does_too = record {
     feeds = refl;
+    given = λ core. prefix_same _ _ refl;
     there = λ core t at.
         let of = of_program core t at in
         (begin_core of.0, ap (λ xs. slice_get xs core) starts_are ∙ made_at begin_core pairs core of.0 of.1);
@@ -166,21 +170,23 @@ module _ (u : Units) (pairs : List Pair) (feeds : List (Option ℕ)) (all : AllB
         let s_is : begin_core b.0 ≡ s = ap begin_core (sym same) ∙ a.2 in (
           m,
           prefix_chain _ _ _ (prefix_same _ _ (sym (ap (λ x. put_by other core x input n) b.2) ∙ ap (λ x. x.output) (program_run core b.0 b.1 input n)))
-              (prefix_chain _ _ _ (is.agrees.output b.0.memory input n (given core b.0 b.1 input words))
+              (prefix_chain _ _ _ (is.agrees.output b.0.memory input n (is_given core b.0 b.1 input words))
               (prefix_same _ _ (sym (ap (λ x. x.output) (core_run core b.0 b.1 input m)) ∙ ap (λ x. put_by net core x input m) s_is))),
         );
     inputs = fed;
   } where
     fed : (steps : List ℕ) (core : ℕ) → AreWords (fed_to net (interleaved net (joined starts) steps) core)
     fed steps core = by (feeder_of net core) where
-      by : (o : Option ℕ) → AreWords (option_map_or (output_of net (interleaved net (joined starts) steps)) o [])
-      by None = tt
+      by : (o : Option ℕ) → AreWords (option_map_or (output_of net (interleaved net (joined starts) steps)) o (given core))
+      by None = given_words core
       by (Some feeder) = core_words steps feeder
 
 pub cores_agree : CoresAgree
-cores_agree u pairs feeds all =
-    both_compare (cycles u (cores u pairs feeds all) feeds) (cores_use u (cores u pairs feeds all) (cores_all u pairs feeds all) feeds) (starts u pairs feeds all)
-    (cores_fresh u (cores u pairs feeds all) feeds (map core_memory pairs))
-    (programs.steps_of u (ps u pairs feeds all) feeds) (programs_use u (ps u pairs feeds all) feeds) (others u pairs feeds all)
-    (programs_fresh u (ps u pairs feeds all) feeds (map program_memory pairs))
-    AreWords (does u pairs feeds all) (does_too u pairs feeds all)
+cores_agree u pairs feeds given all words =
+    let of = cores u pairs feeds given all words in
+    let programs_of = ps u pairs feeds given all words in
+    both_compare (net u pairs feeds given all words) (cores_use u of (cores_all u pairs feeds given all words) feeds given)
+    (starts u pairs feeds given all words) (cores_fresh u of feeds given (map core_memory pairs))
+    (other u pairs feeds given all words) (programs_use u programs_of feeds given) (others u pairs feeds given all words)
+    (programs_fresh u programs_of feeds given (map program_memory pairs))
+    AreWords (does u pairs feeds given all words) (does_too u pairs feeds given all words)

@@ -219,8 +219,8 @@ module _ (u : Units) (programs : List Program) where
     by None = refl
     by (Some p) = next_stays u p s waits
 
-  pub programs_use : (feeds : List (Option ℕ)) → UsesQueues (steps_of u programs feeds)
-  programs_use feeds = record {
+  pub programs_use : (feeds : List (Option ℕ)) (given : ℕ → List ℕ) → UsesQueues (steps_of u programs feeds given)
+  programs_use feeds given = record {
     rest_is = λ s words. refl;
     again = λ s words others. refl;
     itself = λ s. refl;

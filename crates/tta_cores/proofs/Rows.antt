@@ -10,8 +10,8 @@ use Rattle.tta_program.specs.Sequential as program
 use Rattle.tta_code.specs.Cycle.{next}
 use Rattle.tta_code.proofs.Rows.{go, three}
 use Rattle.tta_cores.specs.declared.cores.Core.{Core}
-use Rattle.tta_cores.specs.Network.{turn}
-use Rattle.tta_cores.specs.Cluster.{cycles, cluster, cluster_output}
+use Rattle.tta_cores.specs.Network.{no_input, turn}
+use Rattle.tta_cores.specs.Cluster.{cycles, cluster, cluster_output, output_given}
 use Rattle.tta_cores.specs.Programs.{group_output}
 
 -- core 1 takes what core 0 outputs
@@ -61,6 +61,14 @@ relayed_late : (u : Units) → cluster_output u (core sender ∷ core relay ∷ 
 unfolding next
 relayed_late u = refl
 
+-- words from outside, of which core 1 takes none
+abbrev three_words : ℕ → List ℕ
+three_words core = 7 ∷ 8 ∷ 9 ∷ []
+
+relayed_from_outside : (u : Units) → output_given u (core relay ∷ core relay ∷ []) feeds three_words none (rounds 16) 1 ≡ 7 ∷ 8 ∷ 9 ∷ []
+unfolding next
+relayed_from_outside u = refl
+
 -- of two cores that wait for each other, no turn changes anything
 both_wait : (u : Units) → turn (cycles u (core relay ∷ core relay ∷ []) ring) (cluster u (core relay ∷ core relay ∷ []) ring none (rounds 2)) 0
     ≡ cluster u (core relay ∷ core relay ∷ []) ring none []
@@ -79,6 +87,6 @@ sends = alone 0 (step.Put (Word 5) ∷ step.Put (Word 6) ∷ step.Halt ∷ step.
 abbrev relays : Program
 relays = alone 1 (step.Take 0 ∷ step.Put (Var 0) ∷ step.Goto 0 ∷ step.End ∷ [])
 
-programs_relay : (u : Units) → group_output u (sends ∷ relays ∷ []) feeds none (rounds 8) 1 ≡ 5 ∷ 6 ∷ []
+programs_relay : (u : Units) → group_output u (sends ∷ relays ∷ []) feeds no_input none (rounds 8) 1 ≡ 5 ∷ 6 ∷ []
 unfolding program.next
 programs_relay u = refl

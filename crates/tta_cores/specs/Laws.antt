@@ -4,7 +4,7 @@ use Rattle.std.specs.List.{AllByRecursion}
 use Rattle.tta_cores.specs.Cited.{IsPrefixOf, Units, Machine, IsMachine, over, Program, data_of, IsProgram, IsLegalCode, Whole, data_in, AgreesAt, AreWords}
 use Rattle.tta_cores.specs.declared.cores.Core.{Core}
 use Rattle.tta_cores.specs.Network.{AreComparable}
-use Rattle.tta_cores.specs.Cluster.{cluster_output, IsClusterRest}
+use Rattle.tta_cores.specs.Cluster.{output_given, IsRestGiven}
 use Rattle.tta_cores.specs.Programs.{group_output, IsGroupRest}
 
 -- ---- two orders
@@ -22,19 +22,20 @@ pub record Compare (output other : (steps : List ℕ) → (core : ℕ) → List 
   pub beyond : (steps others : List ℕ) (core : ℕ) → IsRest steps → IsPrefixOf (other others core) (output steps core)
   pub equal : (steps others : List ℕ) (core : ℕ) → IsRest steps → IsOtherRest others → output steps core ≡ other others core
 
--- cores that take their cycles in one order and in another
+-- cores that take their cycles in one order and in another, with the same words from outside
 abbrev pub CoresCompare : Type 0
 CoresCompare =
-    (u : Units) (cores : List Core) (feeds : List (Option ℕ)) (memories : List (List ℕ)) → AllByRecursion IsCore cores
-    → Compare (cluster_output u cores feeds memories) (cluster_output u cores feeds memories)
-    (IsClusterRest u cores feeds memories) (IsClusterRest u cores feeds memories)
+    (u : Units) (cores : List Core) (feeds : List (Option ℕ)) (given : ℕ → List ℕ) (memories : List (List ℕ))
+    → AllByRecursion IsCore cores
+    → Compare (output_given u cores feeds given memories) (output_given u cores feeds given memories)
+    (IsRestGiven u cores feeds given memories) (IsRestGiven u cores feeds given memories)
 
--- programs that take their steps in one order and in another
+-- programs that take their steps in one order and in another, with the same words from outside
 abbrev pub ProgramsCompare : Type 0
 ProgramsCompare =
-    (u : Units) (programs : List Program) (feeds : List (Option ℕ)) (memories : List (List ℕ))
-    → Compare (group_output u programs feeds memories) (group_output u programs feeds memories)
-    (IsGroupRest u programs feeds memories) (IsGroupRest u programs feeds memories)
+    (u : Units) (programs : List Program) (feeds : List (Option ℕ)) (given : ℕ → List ℕ) (memories : List (List ℕ))
+    → Compare (group_output u programs feeds given memories) (group_output u programs feeds given memories)
+    (IsGroupRest u programs feeds given memories) (IsGroupRest u programs feeds given memories)
 
 -- ---- cores and programs
 
@@ -66,15 +67,17 @@ core_memory p = over (data_in p.whole) p.memory
 abbrev pub program_memory : Pair → List ℕ
 program_memory p = over (data_of p.program) p.memory
 
--- the cores of pairs in one order of cycles, and their programs in another order of steps
-abbrev pub PairsCompare : Units → List Pair → (feeds : List (Option ℕ)) → Type 0
-PairsCompare u pairs feeds =
+-- the cores of pairs in one order of cycles, and their programs in another order of steps, with the same words from outside
+abbrev pub PairsCompare : Units → List Pair → (feeds : List (Option ℕ)) → (given : ℕ → List ℕ) → Type 0
+PairsCompare u pairs feeds given =
     let cores = map core_in pairs in
     let programs = map (λ p. p.program) pairs in
     let cores_begin = map core_memory pairs in
     let programs_begin = map program_memory pairs in
-    Compare (cluster_output u cores feeds cores_begin) (group_output u programs feeds programs_begin)
-    (IsClusterRest u cores feeds cores_begin) (IsGroupRest u programs feeds programs_begin)
+    Compare (output_given u cores feeds given cores_begin) (group_output u programs feeds given programs_begin)
+    (IsRestGiven u cores feeds given cores_begin) (IsGroupRest u programs feeds given programs_begin)
 
 abbrev pub CoresAgree : Type 0
-CoresAgree = (u : Units) (pairs : List Pair) (feeds : List (Option ℕ)) → AllByRecursion (IsPair u) pairs → PairsCompare u pairs feeds
+CoresAgree =
+    (u : Units) (pairs : List Pair) (feeds : List (Option ℕ)) (given : ℕ → List ℕ) → AllByRecursion (IsPair u) pairs
+    → ((core : ℕ) → AreWords (given core)) → PairsCompare u pairs feeds given

@@ -7,7 +7,7 @@ use Rattle.tta_cores.specs.Cited.{IsPrefixOf}
 
 -- What cores do: the step of each, by its number, from a state with the rest of its input to the next; whether a state waits for
 -- a word, the rest of its input, what it has output, and the same state with another rest. And which core feeds each: its
--- outputs are the other's input.
+-- outputs are the other's input; a core that no other feeds is given these words from outside.
 pub record Network (S : Type 0) : Type 0 where
   pub step : (core : ℕ) → S → S
   pub waits : S → Bool
@@ -15,6 +15,11 @@ pub record Network (S : Type 0) : Type 0 where
   pub output : S → List ℕ
   pub with_rest : S → List ℕ → S
   pub feeds : List (Option ℕ)
+  pub given : (core : ℕ) → List ℕ
+
+-- no words from outside
+abbrev pub no_input : (core : ℕ) → List ℕ
+no_input core = []
 
 -- a core among others: its state, in which no input is kept, and how many words of its input it has taken
 pub record Joined (S : Type 0) : Type 0 where
@@ -31,9 +36,9 @@ output_of net cores core = option_map_or (λ c. net.output c.state) (slice_get c
 abbrev pub feeder_of : {S : Type 0} → Network S → (core : ℕ) → Option ℕ
 feeder_of net core = option_map_or (λ feeder. feeder) (slice_get net.feeds core) None
 
--- what a core's feeder has output so far; a core that no other feeds has an empty input
+-- what a core's feeder has output so far; of a core that no other feeds, all that it is given from outside
 abbrev pub fed_to : {S : Type 0} → Network S → List (Joined S) → (core : ℕ) → List ℕ
-fed_to net cores core = option_map_or (output_of net cores) (feeder_of net core) []
+fed_to net cores core = option_map_or (output_of net cores) (feeder_of net core) (net.given core)
 
 -- ---- steps
 

@@ -3,6 +3,7 @@ use Rattle.std.specs.Prelude.{◌≡◌, ℕ, zero, suc, ◌==◌, Bool, true, f
 use Rattle.tta_circuit.specs.Meaning.{is_set}
 use Rattle.tta_queue.specs.Queue.{Pin, InData, OutValid, OutData}
 use Rattle.tta_queue.specs.Laws.{takes, gives}
+use Rattle.tta_list.specs.Prefix.{IsPrefixOf}
 use Rattle.tta_cores.specs.Network.{Network, Joined, output_of, feeder_of, fed_to, after_step, stepped}
 
 -- ---- which cores step
@@ -34,7 +35,8 @@ abbrev pub new_words : (Pin → ℕ) → List ℕ
 new_words env = if takes env then env InData ∷ [] else []
 
 -- A clock of cores, where these are the signals of each core's queue: each core that steps does so on what it sees, and does not wait;
--- its queue gives the word that it takes; and the queue of each core takes what its feeder outputs.
+-- its queue gives the word that it takes; and the queue of each core takes what its feeder outputs. The queue of a core that no other
+-- feeds takes words from outside.
 pub record CoresClock {S : Type 0} (net : Network S) (env : ℕ → Pin → ℕ) (going : List ℕ) (before after : List (Joined S)) : Type 0 where
   pub apart : stand_once going ≡ true
   pub at_once : StepAtOnce net (λ core. seen (env core)) going before after
@@ -45,7 +47,20 @@ pub record CoresClock {S : Type 0} (net : Network S) (env : ℕ → Pin → ℕ)
   pub stays : (core : ℕ) → is_among core going ≡ false → gives (env core) ≡ false
   pub puts : (core feeder : ℕ) → feeder_of net core ≡ Some feeder
       → output_of net after feeder ≡ output_of net before feeder ++ new_words (env core)
-  pub unfed : (core : ℕ) → feeder_of net core ≡ None → takes (env core) ≡ false
+
+-- ---- words from outside
+
+-- the same network where only these words have come from outside
+abbrev pub where_came : {S : Type 0} → Network S → (came : ℕ → List ℕ) → Network S
+where_came net came = record net { given = came }
+
+-- The words that have come begin what each core is given from outside.
+abbrev pub HaveCome : {S : Type 0} → Network S → (came : ℕ → List ℕ) → Type 0
+HaveCome net came = (core : ℕ) → feeder_of net core ≡ None → IsPrefixOf (came core) (net.given core)
+
+-- what has come to the queue of each core after a clock
+abbrev pub come_with : (came : ℕ → List ℕ) → (env : ℕ → Pin → ℕ) → ℕ → List ℕ
+come_with came env core = came core ++ new_words (env core)
 
 -- ---- many clocks
 
@@ -54,6 +69,6 @@ abbrev pub steps_by : (going : ℕ → List ℕ) → (n : ℕ) → List ℕ
 steps_by going zero = []
 steps_by going (suc n) = steps_by going n ++ going n
 
--- what is in a core's queue: what its feeder has output, and it has not taken
+-- what is left for a core: what its feeder has output, or it is given from outside, and it has not taken
 abbrev pub waiting_for : {S : Type 0} → Network S → List (Joined S) → (core : ℕ) → Joined S → List ℕ
 waiting_for net cores core c = drop c.taken (fed_to net cores core)

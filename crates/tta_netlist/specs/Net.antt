@@ -1,12 +1,13 @@
 -- The text of cores that are joined by queues.
-use Rattle.std.specs.Prelude.{◌≡◌, ℕ, ◌+◌, Bool, true, List, [], ◌∷◌, ◌++◌, Option, length, map, codes}
+use Rattle.std.specs.Prelude.{◌≡◌, ℕ, ◌+◌, true, List, [], ◌∷◌, ◌++◌, Option, length, map, codes}
 use Rattle.std.specs.List.{flat_map, enumerate_from}
 use Rattle.tta_ops.specs.Units.{Units}
-use Rattle.tta_arch.specs.declared.parts.Op.TheVariants.{Out}
+use Rattle.tta_arch.specs.declared.parts.Op.TheVariants.{Out, Take}
 use Rattle.tta_code.specs.Legal.{IsLegalCode}
 use Rattle.tta_cores.specs.declared.cores.Core.{Core}
 use Rattle.tta_hardware.specs.Hardware.{circuit_of}
 use Rattle.tta_rtl.specs.Module.{module_of, offers}
+use Rattle.tta_wiring.specs.declared.part.Ends.{Ends}
 use Rattle.tta_wiring.specs.Queues.{numbered, queue_text}
 use Rattle.tta_wiring.specs.Top.{top_text}
 
@@ -20,9 +21,12 @@ core_modules u k [] memories = []
 core_modules u k (c ∷ cs) [] = []
 core_modules u k (c ∷ cs) (m ∷ ms) = core_module u k c m ++ core_modules u (k + 1) cs ms
 
--- which cores can put words out
-abbrev pub gives_of : List Core → List Bool
-gives_of cores = map (λ c. offers c.machine Out) cores
+-- which words cores have: whether the machine of each can put words out, and whether it can take some
+abbrev pub ends_at : Core → Ends
+ends_at c = record { gives = offers c.machine Out; takes = offers c.machine Take }
+
+abbrev pub ends_of : List Core → List Ends
+ends_of cores = map ends_at cores
 
 -- A core can stand in a text: its code is legal, and there is a word for each address of its data space.
 pub record IsSound (c : Core) (memory : List ℕ) : Type 0 where
@@ -36,7 +40,7 @@ AreSound (c ∷ cs) [] = Unit {0}
 AreSound (c ∷ cs) (m ∷ ms) = IsSound c m × AreSound cs ms
 
 -- Cores whose data spaces begin with these words, where this core feeds each, with a queue before each of as many words as this power of
--- two: the module that joins them, the queues, and the cores.
+-- two: the module that joins them, the queues, and the cores. Where no core feeds one that can take words, the module has ports for them.
 abbrev pub net_text : Units → List Core → (memories : List (List ℕ)) → (feeds : List (Option ℕ)) → (depths : List ℕ) → List ℕ
 net_text u cores memories feeds depths =
-    top_text (gives_of cores) feeds ++ (flat_map queue_text (enumerate_from 0 depths) ++ core_modules u 0 cores memories)
+    top_text (ends_of cores) feeds ++ (flat_map queue_text (enumerate_from 0 depths) ++ core_modules u 0 cores memories)

@@ -3,7 +3,8 @@
 ghost use Rattle.std.specs.Prelude.{◌≡◌, ◌≤◌, ◌+◌, [], ◌∷◌, ◌++◌, length, map, IfOk, OnOk};
 ghost use Rattle.std.specs.Option.{option_map_or};
 ghost use Rattle.tta_ops.specs.Set.{stated};
-ghost use Rattle.tta_netlist.specs.Net.{AreSound, IsSound, core_module, core_modules, gives_of};
+ghost use Rattle.tta_netlist.specs.Net.{AreSound, IsSound, core_module, core_modules, ends_at};
+ghost use Rattle.tta_netlist.specs.Net.{ends_of};
 
 use std::alloc::{AllocError, Global};
 use tta_arch::Op;
@@ -12,7 +13,7 @@ use tta_cores::Core;
 use tta_list::Items;
 use tta_ops::UnitSet;
 use tta_rtl::{Module, offers, push_core};
-use tta_wiring::push_numbered;
+use tta_wiring::{Ends, push_numbered};
 
 /// Puts the circuit of a core whose data space begins with these words, as a module. Of an image of its
 /// code the text takes no more than the bits of the code, so that it needs no digest and no data.
@@ -85,25 +86,34 @@ pub fn push_modules(
     }
 }
 
-/// Puts which cores can put words out.
-fn push_gives(alloc: Global, gives: &mut Vec<bool>, cores: &[Core]) -> Result<(), AllocError>
-    ensures { OnOk result (gives.new.items ≡ gives.old.items ++ gives_of cores.now) }
+/// Which words a core has.
+fn ends_at(alloc: Global, core: &Core) -> Result<Ends, AllocError>
+    ensures { IfOk result (λ e. e ≡ ends_at core.now) }
+{
+    let gives = offers(alloc, &core.machine, Op::Out)?;
+    let takes = offers(alloc, &core.machine, Op::Take)?;
+    Ok(Ends { gives, takes })
+}
+
+/// Puts which words cores have.
+fn push_ends(alloc: Global, ends: &mut Vec<Ends>, cores: &[Core]) -> Result<(), AllocError>
+    ensures { OnOk result (ends.new.items ≡ ends.old.items ++ ends_of cores.now) }
 {
     match cores {
         [] => Ok(()),
         [core, rest @ ..] => {
-            let out = offers(alloc, &core.machine, Op::Out)?;
-            gives.push(out)?;
-            push_gives(alloc, gives, rest)
+            let first = ends_at(alloc, core)?;
+            ends.push(first)?;
+            push_ends(alloc, ends, rest)
         }
     }
 }
 
-/// Which cores can put words out.
-pub fn gives_of(alloc: Global, cores: &[Core]) -> Result<Vec<bool>, AllocError>
-    ensures { IfOk result (λ v. v.items ≡ gives_of cores.now) }
+/// Which words cores have.
+pub fn ends_of(alloc: Global, cores: &[Core]) -> Result<Vec<Ends>, AllocError>
+    ensures { IfOk result (λ v. v.items ≡ ends_of cores.now) }
 {
-    let mut gives = Vec::new(alloc);
-    push_gives(alloc, &mut gives, cores)?;
-    Ok(gives)
+    let mut ends = Vec::new(alloc);
+    push_ends(alloc, &mut ends, cores)?;
+    Ok(ends)
 }

@@ -5,7 +5,7 @@ ghost use Rattle.std.specs.List.{AllByRecursion};
 ghost use Rattle.tta_ops.specs.Set.{stated};
 ghost use Rattle.tta_netlist.specs.Net.{AreSound, net_text};
 
-use crate::cores::{gives_of, push_modules};
+use crate::cores::{ends_of, push_modules};
 use std::alloc::{AllocError, Global};
 use tta_cores::Core;
 use tta_ops::UnitSet;
@@ -22,7 +22,8 @@ pub struct Net<'a> {
 }
 
 /// The text of cores that are joined by queues, as modules of Verilog: `tta_net` that joins them, the queue
-/// before each core, and the core. The data space of each core begins with these words.
+/// before each core, and the core. The data space of each core begins with these words. `tta_net` has
+/// ports for the words of a core that no other feeds, if its machine can take some.
 pub fn write_net(
     alloc: Global,
     net: &Net<'_>,
@@ -39,9 +40,9 @@ pub fn write_net(
         IfOk result (λ v. v.items
         ≡ net_text U cores.items MEMORIES net.now.feeds.now net.now.depths.now) }
 {
-    let gives = gives_of(alloc, cores.as_slice())?;
+    let ends = ends_of(alloc, cores.as_slice())?;
     let mut out = Vec::new(alloc);
-    push_top(&mut out, gives.as_slice(), net.feeds)?;
+    push_top(&mut out, ends.as_slice(), net.feeds)?;
     push_queues(&mut out, 0, net.depths)?;
     push_modules(alloc, &mut out, net.units, 0, cores, memories)?;
     Ok(out)

@@ -1,5 +1,5 @@
 -- Where links lead upwards, joined circuits come to a stand only where the network is at rest.
-use Rattle.std.proofs.Common.{◌≡◌, ℕ, zero, suc, ◌+◌, ◌-◌, ◌^◌, ◌<◌, ◌≤◌, ◌==◌, Bool, true, false, not, ◌&&◌, ◌||◌, nat_lt, List, [], ◌∷◌, length, Option, Some, None, refl, sym, ap, ◌∙◌, arith}
+use Rattle.std.proofs.Common.{◌≡◌, ℕ, zero, suc, ◌+◌, ◌-◌, ◌^◌, ◌<◌, ◌≤◌, ◌==◌, Bool, true, false, not, ◌&&◌, ◌||◌, nat_lt, List, [], ◌∷◌, length, drop, Option, Some, None, refl, sym, ap, ◌∙◌, arith}
 use Rattle.std.specs.Prelude.{slice_get, slice_set, is_none, map, zip, if◌then◌else◌}
 use Rattle.std.specs.Option.{option_map_or}
 use Rattle.std.specs.List.{AllByRecursion}
@@ -16,18 +16,19 @@ use Rattle.tta_hardware.specs.Signals.{Asks}
 use Rattle.tta_hardware.specs.Stands.{is_halted}
 use Rattle.tta_hardware.specs.Theorem.{is_fault, is_waiting}
 use Rattle.tta_cores.specs.declared.cores.Core.{Core}
-use Rattle.tta_cores.specs.Network.{Network, Joined, after_step, turn, joined}
-use Rattle.tta_cores.specs.Cluster.{cycles, cluster, first_states, IsClusterRest}
+use Rattle.tta_cores.specs.Network.{Network, Joined, output_of, feeder_of, after_step, turn, joined}
+use Rattle.tta_cores.specs.Cluster.{cycles_given, cluster_given, first_states, IsRestGiven}
 use Rattle.tta_cores.specs.Laws.{IsCore}
 use Rattle.tta_cores.proofs.Clusters.{next_core, turn_none, turn_some}
+use Rattle.tta_cores.proofs.CoreQueues.{cores_use}
 use Rattle.tta_joint.specs.Joint.{waiting_for}
-use Rattle.tta_board.specs.Board.{Board, Inputs, Powers, is_feeder, have_room, lines, board_at, AreBoardClocks}
-use Rattle.tta_board.specs.Laws.{StandsAmong, AreSpaces, NeverFault, HasRun}
-use Rattle.tta_board.proofs.Running.{fine_next}
+use Rattle.tta_board.specs.Board.{Board, Inputs, Powers, is_feeder, have_room, lines, board_at, came_by, AreBoardClocks}
+use Rattle.tta_board.specs.Laws.{StandsAmong, AreFine, AreSpaces, NeverFault, HasRun}
+use Rattle.tta_board.proofs.Running.{fine_so_far}
 use Rattle.tta_board.proofs.Standing.{same_waits}
-use Rattle.tta_net.proofs.Resting.{KeepNone, all_keep}
 use Rattle.tta_progress.specs.Moves.{has_room, puts_between}
-use Rattle.tta_progress.specs.Laws.{AreStill, AreUpwards, HaltedHaveRoom, OutsideTakes, BoardFinishes}
+use Rattle.tta_progress.specs.Laws.{AreStill, AreUpwards, HaltedHaveRoom, OutsideTakes, AllHasCome, BoardFinishes}
+use Rattle.tta_progress.proofs.Keeping.{KeepNone, all_keep}
 use Rattle.tta_progress.proofs.Moving.{ends_before, board_moves, told, step_is}
 
 -- ---- a queue without room
@@ -93,22 +94,32 @@ why false false false o r is a b takes = absurd (false≢true (sym is))
 why true w p o r is a b takes = absurd (false≢true (sym a))
 why false true p o r is a b takes = absurd (false≢true (sym b))
 
-module _ (u : Units) (cores : List Core) (feeds : List (Option ℕ)) (memories : ℕ → List ℕ) (spaces : List (List ℕ)) (k : ℕ → ℕ)
-    (powers : Powers) (i : ℕ → Inputs) (last : ℕ) (all : AllByRecursion IsCore cores) (count : length feeds ≡ length cores)
-    (sized : AreSpaces cores memories spaces) (never : NeverFault u cores feeds spaces)
+module _ (u : Units) (cores : List Core) (feeds : List (Option ℕ)) (given : ℕ → List ℕ) (memories : ℕ → List ℕ) (spaces : List (List ℕ))
+    (k : ℕ → ℕ) (powers : Powers) (i : ℕ → Inputs) (last : ℕ) (all : AllByRecursion IsCore cores) (count : length feeds ≡ length cores)
+    (sized : AreSpaces cores memories spaces) (never : NeverFault u cores feeds given spaces)
     (clocks : AreBoardClocks u cores feeds memories k powers i last) (t : ℕ) (steps : List ℕ) (late : last < t)
-    (run : HasRun u cores feeds memories spaces k powers i t steps)
+    (run : HasRun u cores feeds given memories spaces k powers i t steps)
     (still : AreStill u cores feeds memories k (board_at u cores feeds memories k powers i t) (i t))
-    (outs : OutsideTakes u cores feeds k (i t).outside (cluster u cores feeds spaces steps)) (up : AreUpwards feeds)
-    (room : HaltedHaveRoom u cores feeds k (cluster u cores feeds spaces steps)) where
+    (outs : OutsideTakes u cores feeds (came_by u cores feeds memories k powers i t) k (i t).outside
+    (cluster_given u cores feeds given spaces steps)) (up : AreUpwards feeds)
+    (room : HaltedHaveRoom u cores feeds (came_by u cores feeds memories k powers i t) k (cluster_given u cores feeds given spaces steps))
+    (whole : AllHasCome u cores feeds given (came_by u cores feeds memories k powers i t)
+    (cluster_given u cores feeds given spaces steps)) where
+  abbrev came : ℕ → List ℕ
+  came = came_by u cores feeds memories k powers i t
+
+  -- the network where only this has come from outside, and that where all has
   abbrev net : Network State
-  net = cycles u cores feeds
+  net = cycles_given u cores feeds came
+
+  abbrev all_given : Network State
+  all_given = cycles_given u cores feeds given
 
   abbrev board : Board
   board = board_at u cores feeds memories k powers i t
 
   abbrev among : List (Joined State)
-  among = cluster u cores feeds spaces steps
+  among = cluster_given u cores feeds given spaces steps
 
   abbrev Among : ℕ → Core → Type 0
   Among core c = StandsAmong u cores feeds memories k board among core c
@@ -116,19 +127,22 @@ module _ (u : Units) (cores : List Core) (feeds : List (Option ℕ)) (memories :
   abbrev step : ℕ → Joined State → State
   step core j = after_step net core (waiting_for net among core j) j
 
+  fine : AreFine u cores feeds memories k came among
+  fine = fine_so_far u cores feeds given memories spaces k powers i last all sized never clocks t steps run.come run.stand
+
   -- a core that has not halted and does not wait has a word that finds no room
   no_room : (core : ℕ) (c : Core) → slice_get cores core ≡ Some c → (s : Among core c) → is_halted s.now.state.outcome ≡ false
-      → net.waits (step core s.now) ≡ false → have_room (has_room u cores feeds k among) core 0 feeds ≡ false
+      → net.waits (step core s.now) ≡ false → have_room (has_room u cores feeds came k among) core 0 feeds ≡ false
   no_room core c there s runs goes =
-      why (is_halted s.now.state.outcome) (net.waits (step core s.now)) (puts_between u cores feeds k s.now.state (step core s.now))
-      ((i t).outside core) (have_room (has_room u cores feeds k among) core 0 feeds)
-      (sym (board_moves u cores feeds memories k board (i t) among all count (clocks.wired t) (clocks.on t late) run.stand
-      (fine_next u cores feeds memories spaces k powers i last all sized never clocks steps) core c s.now there s.there)
+      why (is_halted s.now.state.outcome) (net.waits (step core s.now)) (puts_between u cores feeds came k s.now.state (step core s.now))
+      ((i t).outside core) (have_room (has_room u cores feeds came k among) core 0 feeds)
+      (sym (board_moves u cores feeds memories k came board (i t) among all count (clocks.wired t) (clocks.on t late) run.stand
+      fine core c s.now there s.there)
       ∙ still core c there)
       runs goes (outs core s.now s.there)
 
   -- a core before a full queue has not halted, and does not wait
-  full_goes : (core : ℕ) (c : Core) → slice_get cores core ≡ Some c → (s : Among core c) → has_room u cores feeds k among core ≡ false
+  full_goes : (core : ℕ) (c : Core) → slice_get cores core ≡ Some c → (s : Among core c) → has_room u cores feeds came k among core ≡ false
       → (is_halted s.now.state.outcome ≡ false) × (net.waits (step core s.now) ≡ false)
   full_goes core c there s full = (runs, by s.now.state.outcome refl) where
     runs : is_halted s.now.state.outcome ≡ false
@@ -155,10 +169,10 @@ module _ (u : Units) (cores : List Core) (feeds : List (Option ℕ)) (memories :
     by Running is =
         same_waits (step core s.now).outcome
         ∙ ap (λ (x : State). is_waiting x.outcome)
-        (step_is u cores feeds memories k board (i t) among all count (clocks.wired t) (clocks.on t late) run.stand
-        (fine_next u cores feeds memories spaces k powers i last all sized never clocks steps) core c there s)
-        ∙ (told u cores feeds memories k board (i t) among all count (clocks.wired t) (clocks.on t late) run.stand
-        (fine_next u cores feeds memories spaces k powers i last all sized never clocks steps) core c there s is).waits
+        (step_is u cores feeds memories k came board (i t) among all count (clocks.wired t) (clocks.on t late) run.stand
+        fine core c there s)
+        ∙ (told u cores feeds memories k came board (i t) among all count (clocks.wired t) (clocks.on t late) run.stand
+        fine core c there s is).waits
         ∙ ap (λ b. is_set (lines u cores feeds memories k board (i t) core c Asks) && b) has_word
         ∙ and_false (is_set (lines u cores feeds memories k board (i t) core c Asks))
     by Halted is = absurd (false≢true (sym runs ∙ ap is_halted is))
@@ -178,7 +192,7 @@ module _ (u : Units) (cores : List Core) (feeds : List (Option ℕ)) (memories :
     runs : is_halted s.now.state.outcome ≡ false
     goes : net.waits (step core s.now) ≡ false
 
-  above : (other : ℕ) → IsFull (has_room u cores feeds k among) other 0 feeds → IsAbove other
+  above : (other : ℕ) → IsFull (has_room u cores feeds came k among) other 0 feeds → IsAbove other
   above other f = by (slice_get cores f.at) refl where
     by : (o : Option Core) → slice_get cores f.at ≡ o → IsAbove other
     by None none =
@@ -187,14 +201,14 @@ module _ (u : Units) (cores : List Core) (feeds : List (Option ℕ)) (memories :
     by (Some c) there =
         let s = run.stand.each f.at c there in
         let here : f.at ≡ 0 + f.at = omega arith in
-        let is = full_goes f.at c there s (ap (has_room u cores feeds k among) here ∙ f.full) in
+        let is = full_goes f.at c there s (ap (has_room u cores feeds came k among) here ∙ f.full) in
         let rises = up.rises f.at other f.fed in
         record { core = f.at; c = c; there = there; s = s; higher = rises.0; within = rises.1; runs = is.0; goes = is.1 }
 
   full_of : (core : ℕ) (c : Core) → slice_get cores core ≡ Some c → (s : Among core c) → is_halted s.now.state.outcome ≡ false
       → net.waits (step core s.now) ≡ false → IsAbove core
   full_of core c there s runs goes =
-      above core (some_full (has_room u cores feeds k among) core 0 feeds (no_room core c there s runs goes))
+      above core (some_full (has_room u cores feeds came k among) core 0 feeds (no_room core c there s runs goes))
 
   -- so no core has a word that finds no room, since none is higher than the highest
   never_full : (left core : ℕ) (c : Core) → slice_get cores core ≡ Some c → (s : Among core c) → up.most < up.height core + left
@@ -209,8 +223,9 @@ module _ (u : Units) (cores : List Core) (feeds : List (Option ℕ)) (memories :
   -- ---- so each core stays
 
   -- no core keeps an input
-  keep_none : KeepNone u cores feeds among
-  keep_none = all_keep u cores feeds (joined (first_states cores spaces)) steps (none_kept (zip cores spaces))
+  keep_none : KeepNone all_given (cores_use u cores all feeds given) among
+  keep_none =
+      all_keep all_given (cores_use u cores all feeds given) (joined (first_states cores spaces)) steps (none_kept (zip cores spaces))
 
   halts : (o : Outcome) → is_halted o ≡ true → o ≡ Halted
   halts Running is = absurd (false≢true is)
@@ -218,44 +233,60 @@ module _ (u : Units) (cores : List Core) (feeds : List (Option ℕ)) (memories :
   halts Waiting is = absurd (false≢true is)
   halts (Fault number cycle) is = absurd (false≢true is)
 
+  -- what is left for a core that has not halted has come
+  all_came : (core : ℕ) (j : Joined State) → slice_get among core ≡ Some j → is_halted j.state.outcome ≡ false
+      → waiting_for all_given among core j ≡ waiting_for net among core j
+  all_came core j there runs = by (feeder_of net core) refl where
+    by : (o : Option ℕ) → feeder_of net core ≡ o → waiting_for all_given among core j ≡ waiting_for net among core j
+    by None unfed =
+        ap (λ ws. drop j.taken (option_map_or (output_of net among) (feeder_of net core) ws)) (sym (whole core j unfed there runs))
+    by (Some feeder) fed =
+        ap (λ o. drop j.taken (option_map_or (output_of net among) o (given core))) fed
+        ∙ sym (ap (λ o. drop j.taken (option_map_or (output_of net among) o (came core))) fed)
+
   module _ (core : ℕ) (c : Core) (there : slice_get cores core ≡ Some c) (s : Among core c) where
     abbrev words : List ℕ
-    words = waiting_for net among core s.now
+    words = waiting_for all_given among core s.now
 
     abbrev fed : State
     fed = record s.now.state { rest = words }
 
+    abbrev last_step : State
+    last_step = after_step all_given core words s.now
+
     abbrev after_of : State → Joined State
     after_of t = record { state = record t { rest = [] }; taken = s.now.taken + (length words - length t.rest) }
 
-    put_same : step core s.now ≡ fed → after_of (step core s.now) ≡ s.now
+    put_same : last_step ≡ fed → after_of last_step ≡ s.now
     put_same same =
         let count : s.now.taken + (length words - length words) ≡ s.now.taken = omega arith in
         ap after_of same
         ∙ ap (λ (n : ℕ). record { state = record s.now.state { rest = [] }; taken = n }) count
         ∙ ap (λ (r : List ℕ). record { state = record s.now.state { rest = r }; taken = s.now.taken }) (sym (keep_none core s.now s.there))
 
-    stays : next_core net among core s.now ≡ s.now
-    stays = by (net.waits (step core s.now)) refl where
-      by : (b : Bool) → net.waits (step core s.now) ≡ b → (if b then s.now else after_of (step core s.now)) ≡ s.now
+    step_so : last_step ≡ next u c.machine c.code fed
+    step_so = ap (λ o. option_map_or (λ x. next u x.machine x.code fed) o fed) there
+
+    stays : next_core all_given among core s.now ≡ s.now
+    stays = by (net.waits last_step) refl where
+      by : (b : Bool) → net.waits last_step ≡ b → (if b then s.now else after_of last_step) ≡ s.now
       by true waits = refl
       by false goes = of (is_halted s.now.state.outcome) refl where
-        of : (h : Bool) → is_halted s.now.state.outcome ≡ h → after_of (step core s.now) ≡ s.now
+        of : (h : Bool) → is_halted s.now.state.outcome ≡ h → after_of last_step ≡ s.now
         of true halted =
-            put_same (step_is u cores feeds memories k board (i t) among all count (clocks.wired t) (clocks.on t late) run.stand
-            (fine_next u cores feeds memories spaces k powers i last all sized never clocks steps) core c there s
-            ∙ halted_stays u c.machine c.code fed (halts s.now.state.outcome halted))
+            put_same (step_so ∙ halted_stays u c.machine c.code fed (halts s.now.state.outcome halted))
         of false runs =
-            absurd (false≢true (never_full (suc up.most) core c there s (omega arith) runs goes))
+            absurd (false≢true (never_full (suc up.most) core c there s (omega arith) runs
+            (ap (λ ws. net.waits (after_step net core ws s.now)) (sym (all_came core s.now s.there runs)) ∙ goes)))
 
-  rest : IsClusterRest u cores feeds spaces steps
+  rest : IsRestGiven u cores feeds given spaces steps
   rest core = by (slice_get cores core) refl where
-    by : (o : Option Core) → slice_get cores core ≡ o → turn net among core ≡ among
-    by None none = turn_none net among core (run.stand.none core none)
+    by : (o : Option Core) → slice_get cores core ≡ o → turn all_given among core ≡ among
+    by None none = turn_none all_given among core (run.stand.none core none)
     by (Some c) there =
         let s = run.stand.each core c there in
-        turn_some net among core s.now s.there ∙ ap (slice_set among core) (stays core c there s) ∙ put_back among core s.now s.there
+        turn_some all_given among core s.now s.there ∙ ap (slice_set among core) (stays core c there s) ∙ put_back among core s.now s.there
 
 pub board_finishes : BoardFinishes
-board_finishes u cores feeds memories spaces k powers i last all count sized never clocks t steps late run still outs up room =
-    rest u cores feeds memories spaces k powers i last all count sized never clocks t steps late run still outs up room
+board_finishes u cores feeds given memories spaces k powers i last all count sized never clocks t steps late run still outs up room whole =
+    rest u cores feeds given memories spaces k powers i last all count sized never clocks t steps late run still outs up room whole

@@ -1,4 +1,6 @@
+pub mod Keeping
 mod Telling
 pub mod Moving
+mod More
 mod Resting
 pub mod Finishing

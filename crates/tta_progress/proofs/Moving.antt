@@ -18,7 +18,7 @@ use Rattle.tta_queue.specs.Queue.{InReady}
 use Rattle.tta_queue.specs.Laws.{Shows}
 use Rattle.tta_cores.specs.declared.cores.Core.{Core}
 use Rattle.tta_cores.specs.Network.{Network, Joined, after_step}
-use Rattle.tta_cores.specs.Cluster.{cycles}
+use Rattle.tta_cores.specs.Cluster.{cycles_given}
 use Rattle.tta_cores.specs.Laws.{IsCore}
 use Rattle.tta_joint.specs.Joint.{waiting_for}
 use Rattle.tta_board.specs.Board.{Board, Inputs, is_feeder, have_room, lines, pins_of, AreWired}
@@ -63,26 +63,26 @@ room_within ready other feeder core (o ∷ feeds) alike =
     ∙ ap (λ r. (not (is_feeder feeder o) || other core) && r)
     (room_within ready other feeder (suc core) feeds (λ n less. alike n (omega (arith, less))))
 
-module _ (u : Units) (cores : List Core) (feeds : List (Option ℕ)) (memories : ℕ → List ℕ) (k : ℕ → ℕ) (b : Board) (i : Inputs)
-    (joined : List (Joined State)) (all : AllByRecursion IsCore cores) (count : length feeds ≡ length cores)
-    (wired : AreWired u cores feeds memories k b i)
-    (on : i.reset ≡ false) (stand : StandForCores u cores feeds memories k b joined) (fine : AreFine u cores feeds memories k joined) where
+module _ (u : Units) (cores : List Core) (feeds : List (Option ℕ)) (memories : ℕ → List ℕ) (k : ℕ → ℕ) (came : ℕ → List ℕ) (b : Board)
+    (i : Inputs) (joined : List (Joined State)) (all : AllByRecursion IsCore cores) (count : length feeds ≡ length cores)
+    (wired : AreWired u cores feeds memories k b i) (on : i.reset ≡ false) (stand : StandForCores u cores feeds memories k came b joined)
+    (fine : AreFine u cores feeds memories k came joined) where
   abbrev net : Network State
-  net = cycles u cores feeds
+  net = cycles_given u cores feeds came
 
   abbrev Among : ℕ → Core → Type 0
   Among core c = StandsAmong u cores feeds memories k b joined core c
 
   shows : (core : ℕ) (j : Joined State) → slice_get joined core ≡ Some j
       → Shows (k core) (pins_of u cores feeds memories k b i core) (waiting_for net joined core j)
-  shows core j there = making.shows u cores feeds memories k b i joined all wired on stand fine core j there
+  shows core j there = making.shows u cores feeds memories k came b i joined all wired on stand fine core j there
 
   -- each queue has room where its circuit says so
   pub room_is : (n : ℕ) → n < length cores
-      → is_set (pins_of u cores feeds memories k b i n InReady) ≡ has_room u cores feeds k joined n
+      → is_set (pins_of u cores feeds memories k b i n InReady) ≡ has_room u cores feeds came k joined n
   room_is n less = by (slice_get cores n) refl where
     by : (o : Option Core) → slice_get cores n ≡ o
-        → is_set (pins_of u cores feeds memories k b i n InReady) ≡ has_room u cores feeds k joined n
+        → is_set (pins_of u cores feeds memories k b i n InReady) ≡ has_room u cores feeds came k joined n
     by None none = absurd (let le : length cores ≤ n = ends_before cores n none in omega (arith, le, less))
     by (Some c) there =
         let s = stand.each n c there in
@@ -102,7 +102,7 @@ module _ (u : Units) (cores : List Core) (feeds : List (Option ℕ)) (memories :
     at = record s.now.state { rest = words }
 
     abbrev room : Bool
-    room = i.outside core && have_room (has_room u cores feeds k joined) core 0 feeds
+    room = i.outside core && have_room (has_room u cores feeds came k joined) core 0 feeds
 
     is : IsCore c
     is = all_one IsCore cores core c all there
@@ -122,7 +122,7 @@ module _ (u : Units) (cores : List Core) (feeds : List (Option ℕ)) (memories :
     ready_is =
         ap is_set (enters u c.machine c.code (memories core) (b.cores core) (i.cores core)).ready ∙ (wired.each core c there).ready
         ∙ ap (λ r. i.outside core && r)
-        (room_within (λ n. is_set (pins_of u cores feeds memories k b i n InReady)) (has_room u cores feeds k joined) core 0 feeds
+        (room_within (λ n. is_set (pins_of u cores feeds memories k b i n InReady)) (has_room u cores feeds came k joined) core 0 feeds
         (λ n less. room_is n (omega (arith, less, count))))
 
     goes_is : s.now.state.outcome ≡ Running
@@ -145,19 +145,19 @@ module _ (u : Units) (cores : List Core) (feeds : List (Option ℕ)) (memories :
         (sym (ap (λ (t : State). is_fault t.outcome) step_is) ∙ fine core s.now s.there) settled
 
     -- a core that has a word to put out gives one
-    pub gives_word : has_word_to_put u cores feeds k joined core s.now ≡ true → is_set (env Gives) ≡ true
+    pub gives_word : has_word_to_put u cores feeds came k joined core s.now ≡ true → is_set (env Gives) ≡ true
     gives_word has = by s.now.state.outcome refl where
       parts : (not (is_halted s.now.state.outcome) ≡ true) × ((not (net.waits (after_step net core words s.now))
-          && puts_between u cores feeds k s.now.state (after_step net core words s.now)) ≡ true)
+          && puts_between u cores feeds came k s.now.state (after_step net core words s.now)) ≡ true)
       parts =
           and_parts (not (is_halted s.now.state.outcome)) (not (net.waits (after_step net core words s.now))
-          && puts_between u cores feeds k s.now.state (after_step net core words s.now)) has
+          && puts_between u cores feeds came k s.now.state (after_step net core words s.now)) has
 
       goes : (not (net.waits (after_step net core words s.now)) ≡ true)
-          × (puts_between u cores feeds k s.now.state (after_step net core words s.now) ≡ true)
+          × (puts_between u cores feeds came k s.now.state (after_step net core words s.now) ≡ true)
       goes =
           and_parts (not (net.waits (after_step net core words s.now)))
-          (puts_between u cores feeds k s.now.state (after_step net core words s.now)) parts.1
+          (puts_between u cores feeds came k s.now.state (after_step net core words s.now)) parts.1
 
       no : (b : Bool) → not b ≡ true → b ≡ false
       no true off = sym off
@@ -172,9 +172,9 @@ module _ (u : Units) (cores : List Core) (feeds : List (Option ℕ)) (memories :
       by Waiting waits = absurd (false≢true (sym s.goes_on ∙ ap is_waiting waits))
       by (Fault number cycle) faults = absurd (false≢true (sym s.fine ∙ ap is_fault faults))
 
-    moves : is_set (env Goes) ≡ can_go u cores feeds k i.outside joined core s.now
+    moves : is_set (env Goes) ≡ can_go u cores feeds came k i.outside joined core s.now
     moves = by s.now.state.outcome refl where
-      by : (o : Outcome) → s.now.state.outcome ≡ o → is_set (env Goes) ≡ can_go u cores feeds k i.outside joined core s.now
+      by : (o : Outcome) → s.now.state.outcome ≡ o → is_set (env Goes) ≡ can_go u cores feeds came k i.outside joined core s.now
       by Running runs =
           goes_is runs
           ∙ ap (λ o. (not (is_set (env Asks)) || o) && (not (is_set (env Gives)) || is_set (env IsReady))) offered_is
@@ -197,7 +197,8 @@ module _ (u : Units) (cores : List Core) (feeds : List (Option ℕ)) (memories :
       by (Fault number cycle) faults = absurd (false≢true (sym s.fine ∙ ap is_fault faults))
 
 pub board_moves : BoardMoves
-board_moves u cores feeds memories k b i joined all count wired on stand fine core c j there among =
+board_moves u cores feeds memories k came b i joined all count wired on stand fine core c j there among =
     let s = stand.each core c there in
-    subst (λ (j : Joined State). is_set (lines u cores feeds memories k b i core c Goes) ≡ can_go u cores feeds k i.outside joined core j)
-    (same_Some s.now j (sym s.there ∙ among)) (moves u cores feeds memories k b i joined all count wired on stand fine core c there s)
+    subst (λ (j : Joined State). is_set (lines u cores feeds memories k b i core c Goes)
+    ≡ can_go u cores feeds came k i.outside joined core j)
+    (same_Some s.now j (sym s.there ∙ among)) (moves u cores feeds memories k came b i joined all count wired on stand fine core c there s)

@@ -6,15 +6,15 @@ use Rattle.tta_code.specs.Cycle.{State}
 use Rattle.tta_hardware.specs.Stands.{is_halted}
 use Rattle.tta_cores.specs.declared.cores.Core.{Core}
 use Rattle.tta_cores.specs.Network.{Joined, after_step}
-use Rattle.tta_cores.specs.Cluster.{cycles}
+use Rattle.tta_cores.specs.Cluster.{cycles_given}
 use Rattle.tta_joint.specs.Joint.{waiting_for}
 use Rattle.tta_board.specs.Board.{have_room}
 
--- Cores with their code; which core feeds each; and queues of 2^k words.
-module _ (u : Units) (cores : List Core) (feeds : List (Option ℕ)) (k : ℕ → ℕ) where
+-- Cores with their code; which core feeds each; the words that have come from outside; and queues of 2^k words.
+module _ (u : Units) (cores : List Core) (feeds : List (Option ℕ)) (came : ℕ → List ℕ) (k : ℕ → ℕ) where
   -- the words that are in the queue before a core
   abbrev pub in_queue : List (Joined State) → (core : ℕ) → List ℕ
-  in_queue joined core = option_map_or (λ j. waiting_for (cycles u cores feeds) joined core j) (slice_get joined core) []
+  in_queue joined core = option_map_or (λ j. waiting_for (cycles_given u cores feeds came) joined core j) (slice_get joined core) []
 
   -- whether the queue before a core has room
   abbrev pub has_room : List (Joined State) → (core : ℕ) → Bool
@@ -28,7 +28,7 @@ module _ (u : Units) (cores : List Core) (feeds : List (Option ℕ)) (k : ℕ �
   -- word that its queue does not have; and where it puts a word out, the outside takes it and each queue that the core feeds has room.
   abbrev pub can_go : (outside : ℕ → Bool) → List (Joined State) → (core : ℕ) → Joined State → Bool
   can_go outside joined core j =
-      let net = cycles u cores feeds in
+      let net = cycles_given u cores feeds came in
       let next = after_step net core (waiting_for net joined core j) j in
       not (is_halted j.state.outcome)
       && (not (net.waits next) && (not (puts_between j.state next) || (outside core && have_room (has_room joined) core 0 feeds)))
@@ -36,6 +36,6 @@ module _ (u : Units) (cores : List Core) (feeds : List (Option ℕ)) (k : ℕ �
   -- whether a core has a word to put out: it has not halted, it does not wait, and its next cycle puts one out
   abbrev pub has_word_to_put : List (Joined State) → (core : ℕ) → Joined State → Bool
   has_word_to_put joined core j =
-      let net = cycles u cores feeds in
+      let net = cycles_given u cores feeds came in
       let next = after_step net core (waiting_for net joined core j) j in
       not (is_halted j.state.outcome) && (not (net.waits next) && puts_between j.state next)

@@ -2,7 +2,7 @@
 use Rattle.std.proofs.Common.{◌≡◌, ℕ, List, map, sym, subst}
 use Rattle.tta_list.specs.Prefix.{IsPrefixOf}
 use Rattle.tta_cores.specs.Network.{AreComparable}
-use Rattle.tta_cores.specs.Cluster.{cluster_output}
+use Rattle.tta_cores.specs.Cluster.{output_given}
 use Rattle.tta_cores.specs.Programs.{group_output}
 use Rattle.tta_cores.specs.Laws.{Pair, core_in, core_memory, program_memory}
 use Rattle.tta_cores.proofs.Pairs.{made_at, cores_agree}
@@ -12,20 +12,20 @@ use Rattle.tta_wired.specs.Laws.{NetAgrees}
 use Rattle.tta_wired.proofs.Running.{net_runs}
 
 pub net_agrees : NetAgrees
-net_agrees u pairs feeds memories k powers i signals last all linked same never clocks t less core p there =
-    let run = net_runs u (map core_in pairs) feeds memories (map core_memory pairs) k powers i signals last (are_cores u pairs all) linked
-    (are_spaces u pairs feeds memories all same) never clocks t less in
-    let passed : passed_by u (map core_in pairs) feeds memories k powers i signals core t
-    ≡ cluster_output u (map core_in pairs) feeds (map core_memory pairs) run.0 core =
+net_agrees u pairs feeds takes given memories k powers i signals last all linked words same never clocks t less have core p there =
+    let run = net_runs u (map core_in pairs) feeds takes given memories (map core_memory pairs) k powers i signals last
+    (are_cores u pairs all) linked (are_spaces u pairs feeds memories all same) never clocks t less have in
+    let passed : passed_by u (map core_in pairs) feeds takes memories k powers i signals core t
+    ≡ output_given u (map core_in pairs) feeds given (map core_memory pairs) run.0 core =
     run.1.passed core (core_in p) (made_at core_in pairs core p there) in
-    let agree = cores_agree u pairs feeds all in
+    let agree = cores_agree u pairs feeds given all words in
     let programs = map (λ (q : Pair). q.program) pairs in
     let begin = map program_memory pairs in
     record {
       comparable = λ others.
-          subst (λ (l : List ℕ). AreComparable l (group_output u programs feeds begin others core)) (sym passed)
+          subst (λ (l : List ℕ). AreComparable l (group_output u programs feeds given begin others core)) (sym passed)
           (agree.comparable run.0 others core);
       within = λ others rest.
-          subst (λ (l : List ℕ). IsPrefixOf l (group_output u programs feeds begin others core)) (sym passed)
+          subst (λ (l : List ℕ). IsPrefixOf l (group_output u programs feeds given begin others core)) (sym passed)
           (agree.within run.0 others core rest);
     }

@@ -1,6 +1,7 @@
 mod Wired
 mod Ordered
 mod Running
+mod Entering
 mod Agreeing
 mod Settling
 mod Finishing

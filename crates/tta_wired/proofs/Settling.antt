@@ -1,5 +1,5 @@
 -- The signals of the module have words at every clock.
-use Rattle.std.proofs.Common.{◌≡◌, ℕ, zero, suc, ◌+◌, ◌<◌, Bool, true, false, ◌&&◌, nat_le, if◌then◌else◌, List, [], ◌∷◌, Option, Some, None, refl, sym, ap, ◌∙◌, subst, arith}
+use Rattle.std.proofs.Common.{◌≡◌, ℕ, zero, suc, ◌+◌, ◌<◌, Bool, true, false, ◌&&◌, nat_le, if◌then◌else◌, List, [], ◌∷◌, length, Option, Some, None, refl, sym, ap, ◌∙◌, subst, arith}
 use Rattle.std.specs.Prelude.{slice_get}
 use Rattle.std.specs.Option.{option_map_or}
 use Rattle.std.proofs.lemmas.Bool.{le-leb, leb-true}
@@ -15,10 +15,13 @@ use Rattle.tta_queue.specs.Queue as queue
 use Rattle.tta_queue.proofs.Clocking.{queue_looks}
 use Rattle.tta_cores.specs.declared.cores.Core.{Core}
 use Rattle.tta_board.specs.Board.{Board, Inputs, Powers, board_after, board_at}
-use Rattle.tta_wiring.specs.Signals.{Joint, Reset, Outside, Halted, Cycle, Valid, Word, Asks, Room, HasWord, First, Rooms, Ready, Puts, Takes, Fed, Comes, is_feeder, rooms_of, queue_wires}
-use Rattle.tta_wired.specs.Joining.{HaveWords, AreLinked, IsUnused, AreNet, AreNetClocks}
-use Rattle.tta_wired.specs.Laws.{NetSettles}
-use Rattle.tta_wired.proofs.Wired.{none_alike}
+use Rattle.tta_wiring.specs.declared.part.Source.{Source}
+use Rattle.tta_wiring.specs.declared.part.Source.TheVariants as source
+use Rattle.tta_wiring.specs.Signals.{Joint, Reset, Outside, Offers, Offer, Halted, Cycle, Valid, Word, Asks, Room, HasWord, First, Rooms, Ready, Puts, Takes, Fed, Comes, is_feeder, rooms_of, source_at, fed_by, comes_by, queue_wires}
+use Rattle.tta_wired.specs.Joining.{HaveWords, IsUnused, AreNet, AreNetClocks}
+use Rattle.tta_board.specs.Laws.{Surroundings}
+use Rattle.tta_progress.proofs.Moving.{ends_before}
+use Rattle.tta_wired.specs.Laws.{ComesIn, NetSettles}
 
 -- the room of queues is the same where each says the same
 rooms_alike : (u : Units) (some other : Joint → ℕ) → ((n : ℕ) → some (Room n) ≡ other (Room n)) → (feeder core : ℕ) (feeds : List (Option ℕ))
@@ -38,8 +41,8 @@ rooms_alike u some other alike feeder core (o ∷ feeds) =
         ∙ ap (λ n. bit (is_set (other (Room core)) && is_set n)) rest
     by false rest = rest
 
-module _ (u : Units) (cores : List Core) (feeds : List (Option ℕ)) (memories : ℕ → List ℕ) (k : ℕ → ℕ) where
-  module _ (b : Board) (reset : Bool) (outside : ℕ → Bool) where
+module _ (u : Units) (cores : List Core) (feeds : List (Option ℕ)) (takes_words : ℕ → Bool) (memories : ℕ → List ℕ) (k : ℕ → ℕ) where
+  module _ (b : Board) (reset : Bool) (outside : Surroundings) where
     -- ---- what queues show, first
 
     abbrev reset_alone : Pin → ℕ
@@ -59,7 +62,7 @@ module _ (u : Units) (cores : List Core) (feeds : List (Option ℕ)) (memories :
     rooms core = value u (λ (m : ⊥). []) shown (rooms_of core 0 feeds)
 
     abbrev ready : (core : ℕ) → ℕ
-    ready core = bit (is_set (bit (outside core)) && is_set (rooms core))
+    ready core = bit (is_set (bit (outside.takes core)) && is_set (rooms core))
 
     abbrev core_inputs : (core : ℕ) → Named → ℕ
     core_inputs core IsOffered = look core queue.OutValid
@@ -95,18 +98,30 @@ module _ (u : Units) (cores : List Core) (feeds : List (Option ℕ)) (memories :
     abbrev takes : (core : ℕ) → ℕ
     takes core = bit (is_set (cycle core) && is_set (asks core))
 
-    abbrev feed : (core : ℕ) → Option ℕ
-    feed core = option_map_or (λ f. f) (slice_get feeds core) None
+    -- the source of each queue
+    abbrev from : (core : ℕ) → Source
+    from core = source_at feeds core (takes_words core)
 
-    abbrev fed : Option ℕ → ℕ
-    fed o = option_map_or puts o 0
+    abbrev fed : (core : ℕ) → Source → ℕ
+    fed core (source.Feeder feeder) = puts feeder
+    fed core source.Outside = bit (outside.offers core)
+    fed core source.Nothing = 0
 
-    abbrev comes : Option ℕ → ℕ
-    comes o = option_map_or word o 0
+    abbrev comes : (core : ℕ) → Source → ℕ
+    comes core (source.Feeder feeder) = word feeder
+    comes core source.Outside = outside.word core
+    comes core source.Nothing = 0
+
+    -- where there is no core nothing is offered
+    abbrev offered : (core : ℕ) → Option Core → ℕ
+    offered core None = 0
+    offered core (Some c) = fed core (from core)
 
     abbrev signals : Joint → ℕ
     signals Reset = bit reset
-    signals (Outside core) = bit (outside core)
+    signals (Outside core) = bit (outside.takes core)
+    signals (Offers core) = bit (outside.offers core)
+    signals (Offer core) = outside.word core
     signals (Halted core) = of_core core (λ c. line core c HasHalted)
     signals (Cycle core) = cycle core
     signals (Valid core) = valid core
@@ -119,38 +134,50 @@ module _ (u : Units) (cores : List Core) (feeds : List (Option ℕ)) (memories :
     signals (Ready core) = ready core
     signals (Puts core) = puts core
     signals (Takes core) = takes core
-    signals (Fed core) = fed (feed core)
-    signals (Comes core) = comes (feed core)
+    signals (Fed core) = offered core (slice_get cores core)
+    signals (Comes core) = comes core (from core)
 
     abbrev queue_inputs : (core : ℕ) → Pin → ℕ
-    queue_inputs core queue.InValid = fed (feed core)
-    queue_inputs core queue.InData = comes (feed core)
+    queue_inputs core queue.InValid = offered core (slice_get cores core)
+    queue_inputs core queue.InData = comes core (from core)
     queue_inputs core queue.OutReady = takes core
     queue_inputs core queue.IsReset = bit reset
     queue_inputs core p = 0
 
     abbrev inputs_of : Inputs
-    inputs_of = record { cores = core_inputs; queues = queue_inputs; reset = reset; outside = outside }
+    inputs_of = record { cores = core_inputs; queues = queue_inputs; reset = reset; outside = outside.takes }
 
     -- ---- they are joined
 
     there_is : (core : ℕ) (c : Core) (word : Core → ℕ) → slice_get cores core ≡ Some c → word c ≡ of_core core word
     there_is core c word there = sym (ap (λ o. option_map_or word o 0) there)
 
-    wires_of_queue : (core : ℕ) (feeder : Option ℕ) → slice_get feeds core ≡ Some feeder → HaveWords u signals (queue_wires (core, feeder))
-    wires_of_queue core None at = (ap (λ o. fed (option_map_or (λ f. f) o None)) at, (ap (λ o. comes (option_map_or (λ f. f) o None)) at, tt))
-    wires_of_queue core (Some f) at =
-        (ap (λ o. fed (option_map_or (λ f. f) o None)) at, (ap (λ o. comes (option_map_or (λ f. f) o None)) at, tt))
+    word_fed : (core : ℕ) (s : Source) → fed core s ≡ value u (λ (m : ⊥). []) signals (fed_by core s)
+    word_fed core (source.Feeder feeder) = refl
+    word_fed core source.Outside = refl
+    word_fed core source.Nothing = refl
 
-    unused : AreLinked cores feeds → (core : ℕ) → slice_get cores core ≡ None → IsUnused inputs_of core
-    unused linked core none = record {
-      offered = ap (λ o. is_set (fed (option_map_or (λ f. f) o None))) (none_alike cores feeds core (sym linked.count) none);
+    word_comes : (core : ℕ) (s : Source) → comes core s ≡ value u (λ (m : ⊥). []) signals (comes_by core s)
+    word_comes core (source.Feeder feeder) = refl
+    word_comes core source.Outside = refl
+    word_comes core source.Nothing = refl
+
+    wires_of_queue : (core : ℕ) → core < length cores → HaveWords u signals (queue_wires core (from core))
+    wires_of_queue core less = (by (slice_get cores core) refl, (word_comes core (from core), tt)) where
+      by : (o : Option Core) → slice_get cores core ≡ o
+          → offered core (slice_get cores core) ≡ value u (λ (m : ⊥). []) signals (fed_by core (from core))
+      by None none = absurd (let le = ends_before cores core none in omega (arith, le, less))
+      by (Some c) there = ap (offered core) there ∙ word_fed core (from core)
+
+    unused : (core : ℕ) → slice_get cores core ≡ None → IsUnused inputs_of core
+    unused core none = record {
+      offered = ap (λ o. is_set (offered core o)) none;
       asked = ap (λ o. is_set (bit (is_set (option_map_or (λ c. line core c Goes) o 0) && is_set (asks core)))) none;
       reset = set_bit reset;
     }
 
-    joined : AreLinked cores feeds → AreNet u cores feeds memories k b inputs_of signals
-    joined linked = record {
+    joined : AreNet u cores feeds takes_words memories k b inputs_of signals
+    joined = record {
       of_core = λ core c there. (
         refl,
         (
@@ -173,13 +200,16 @@ module _ (u : Units) (cores : List Core) (feeds : List (Option ℕ)) (memories :
       wires_of_core = λ core less. (rooms_alike u shown signals (λ n. refl) core 0 feeds, (refl, (refl, (refl, tt))));
       wires_of_queue = wires_of_queue;
       reset = set_bit reset;
-      outside = λ core less. set_bit (outside core);
-      none = unused linked;
+      outside = λ core less. set_bit (outside.takes core);
+      none = unused;
     }
+
+    comes_in : ComesIn outside inputs_of signals
+    comes_in = record { takes = λ core. refl; offers = λ core. set_bit (outside.offers core); word = λ core. refl }
 
   -- ---- clock by clock
 
-  module _ (powers : Powers) (last : ℕ) (outside : ℕ → ℕ → Bool) (linked : AreLinked cores feeds) where
+  module _ (powers : Powers) (last : ℕ) (outside : ℕ → Surroundings) where
     abbrev run : ℕ → Board
     run zero = board_at u cores feeds memories k powers (λ t. record {
       cores = λ core n. 0;
@@ -203,18 +233,18 @@ module _ (u : Units) (cores : List Core) (feeds : List (Option ℕ)) (memories :
     past t less true is = absurd (let le = leb-true t last is in omega (arith, le, less))
     past t less false is = refl
 
-    clocks : AreNetClocks u cores feeds memories k powers inputs words last
+    clocks : AreNetClocks u cores feeds takes_words memories k powers inputs words last
     clocks = record {
       joined = λ t.
-          subst (λ b. AreNet u cores feeds memories k b (inputs t) (words t)) (sym (at_run t))
-          (joined (run t) (nat_le t last) (outside t) linked);
+          subst (λ b. AreNet u cores feeds takes_words memories k b (inputs t) (words t)) (sym (at_run t))
+          (joined (run t) (nat_le t last) (outside t));
       reset = λ t le. set_bit (nat_le t last) ∙ le-leb t last le;
       on = λ t less. set_bit (nat_le t last) ∙ past t less (nat_le t last) refl;
     }
 
     settles : (i : ℕ → Inputs) × (signals : ℕ → Joint → ℕ)
-        × (AreNetClocks u cores feeds memories k powers i signals last × ((t core : ℕ) → (i t).outside core ≡ outside t core))
-    settles = (inputs, words, (clocks, λ t core. refl))
+        × (AreNetClocks u cores feeds takes_words memories k powers i signals last × ((t : ℕ) → ComesIn (outside t) (i t) (signals t)))
+    settles = (inputs, words, (clocks, λ t. comes_in (run t) (nat_le t last) (outside t)))
 
 pub net_settles : NetSettles
-net_settles u cores feeds memories k powers last outside linked = settles u cores feeds memories k powers last outside linked
+net_settles u cores feeds takes memories k powers last outside = settles u cores feeds takes memories k powers last outside

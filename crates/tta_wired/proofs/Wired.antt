@@ -2,6 +2,7 @@
 use Rattle.std.proofs.Common.{◌≡◌, ℕ, zero, suc, ◌+◌, ◌<◌, ◌≤◌, Bool, true, false, not, ◌&&◌, ◌||◌, if◌then◌else◌, List, [], ◌∷◌, length, Option, None, Some, refl, sym, ap, ◌∙◌, arith}
 use Rattle.std.specs.Prelude.{slice_get, is_some}
 use Rattle.std.specs.Option.{option_map_or}
+use Rattle.std.proofs.lemmas.Bool.{false≢true}
 use Rattle.std.proofs.lemmas.Option.{slice_get_within}
 use Rattle.tta_ops.specs.Units.{Units}
 use Rattle.tta_code.specs.Cycle.{State}
@@ -15,18 +16,11 @@ use Rattle.tta_cores.specs.declared.cores.Core.{Core}
 use Rattle.tta_cores.specs.Network.{Network, feeder_of}
 use Rattle.tta_cores.specs.Cluster.{cycles}
 use Rattle.tta_board.specs.Board.{Board, Inputs, have_room, lines, pins_of, IsWiredCore, AreWired}
-use Rattle.tta_wiring.specs.Signals.{Joint, Outside, Cycle, Valid, Asks as Wants, Room, Rooms, Ready, Puts, Takes, is_feeder, rooms_of}
-use Rattle.tta_wired.specs.Joining.{AreLinked, AreNet}
+use Rattle.tta_wiring.specs.Signals.{Joint, Outside, Offers, Offer, Cycle, Valid, Asks as Wants, Room, Rooms, Ready, Puts, Takes, is_feeder, rooms_of, feeder_at, source_of, is_outside, fed_by as word_fed, comes_by as word_comes}
+use Rattle.tta_wiring.specs.declared.part.Source.{Source}
+use Rattle.tta_joint.specs.Joint.{new_words}
+use Rattle.tta_wired.specs.Joining.{AreLinked, AreNet, is_open}
 use Rattle.tta_wired.specs.Laws.{NetIsWired}
-
--- ---- lists
-
--- where one of two lists that are as long has no element, the other has none
-pub none_alike : {A B : Type 0} (xs : List A) (ys : List B) (n : ℕ) → length xs ≡ length ys → slice_get xs n ≡ None → slice_get ys n ≡ None
-none_alike xs [] n same none = refl
-none_alike [] (y ∷ ys) n same none = absurd (omega (arith, same))
-none_alike (x ∷ xs) (y ∷ ys) zero same none = absurd cc
-none_alike (x ∷ xs) (y ∷ ys) (suc n) same none = none_alike xs ys n (omega (arith, same)) none
 
 -- ---- tests
 
@@ -76,8 +70,9 @@ shown false false g = set_bit (is_set (bit g)) ∙ set_bit g
 
 -- ---- the wires
 
-module _ (u : Units) (cores : List Core) (feeds : List (Option ℕ)) (memories : ℕ → List ℕ) (k : ℕ → ℕ) (b : Board) (i : Inputs)
-    (signals : Joint → ℕ) (linked : AreLinked cores feeds) (net : AreNet u cores feeds memories k b i signals) where
+module _ (u : Units) (cores : List Core) (feeds : List (Option ℕ)) (takes_words : ℕ → Bool) (memories : ℕ → List ℕ) (k : ℕ → ℕ) (b : Board)
+    (i : Inputs) (signals : Joint → ℕ) (linked : AreLinked cores feeds)
+    (net : AreNet u cores feeds takes_words memories k b i signals) where
   abbrev among : Network State
   among = cycles u cores feeds
 
@@ -169,24 +164,19 @@ module _ (u : Units) (cores : List Core) (feeds : List (Option ℕ)) (memories :
       → (is_set (i.queues n queue.InValid) ≡ is_set (lines u cores feeds memories k b i feeder f CorePuts))
       × (i.queues n queue.InData ≡ lines u cores feeds memories k b i feeder f PutWord)
   fed n feeder f is there =
-      let at = fed_by n feeder is in
-      let before = net.of_queue n (there_is n (Some feeder) at) in
-      let wires = net.wires_of_queue n (Some feeder) at in (
-        ap is_set (before.1.0 ∙ wires.0) ∙ puts feeder f there,
-        before.1.1.0 ∙ wires.1.0 ∙ sym (net.of_core feeder f there).1.1.1.1.0,
+      let within = there_is n (Some feeder) (fed_by n feeder is) in
+      let before = net.of_queue n within in
+      let wires = net.wires_of_queue n within in (
+        ap is_set (before.1.0 ∙ wires.0 ∙ ap (λ o. value u (λ (m : ⊥). []) signals (word_fed n (source_of (takes_words n) o))) is)
+            ∙ puts feeder f there,
+        before.1.1.0 ∙ wires.1.0 ∙ ap (λ o. value u (λ (m : ⊥). []) signals (word_comes n (source_of (takes_words n) o))) is
+            ∙ sym (net.of_core feeder f there).1.1.1.1.0,
       )
 
   no_core : (n feeder : ℕ) → feeder_of among n ≡ Some feeder → slice_get cores feeder ≡ None → is_set (i.queues n queue.InValid) ≡ false
   no_core n feeder is none =
       let some = linked.feeders n feeder (fed_by n feeder is) in
       absurd (let e = sym some ∙ ap is_some none in cc)
-
-  unfed : (n : ℕ) → feeder_of among n ≡ None → is_set (i.queues n queue.InValid) ≡ false
-  unfed n is = by (slice_get feeds n) refl is where
-    by : (o : Option (Option ℕ)) → slice_get feeds n ≡ o → option_map_or (λ f. f) o None ≡ None → is_set (i.queues n queue.InValid) ≡ false
-    by None at is = (net.none n (none_alike feeds cores n linked.count at)).offered
-    by (Some None) at is = ap is_set ((net.of_queue n (there_is n None at)).1.0 ∙ (net.wires_of_queue n None at).0)
-    by (Some (Some f)) at is = absurd cc
 
   resets : (n : ℕ) → is_set (i.queues n queue.IsReset) ≡ i.reset
   resets n = by (slice_get cores n) refl where
@@ -200,9 +190,54 @@ module _ (u : Units) (cores : List Core) (feeds : List (Option ℕ)) (memories :
     unasked = λ n none. (net.none n none).asked;
     fed = fed;
     no_core = no_core;
-    unfed = unfed;
     reset = resets;
   }
 
+-- ---- what comes in
+
+-- what a queue that no core feeds takes at a clock is what comes in at the ports: o says whether it has ports, v whether a word is offered
+-- to the queue and p whether one is at the ports, and r that there is room
+comes_so : (o v p r : Bool) (word other : ℕ) → v ≡ (o && p) → (o ≡ true → word ≡ other)
+    → (if v && r then word ∷ [] else []) ≡ (if o && (p && r) then other ∷ [] else [])
+comes_so false v p r word other is same = ap (λ (x : Bool). if x && r then word ∷ [] else []) is
+comes_so true v p r word other is same =
+    ap (λ (x : Bool). if x && r then word ∷ [] else []) is ∙ ap (λ (w : ℕ). if p && r then w ∷ [] else []) (same refl)
+
+module _ (u : Units) (cores : List Core) (feeds : List (Option ℕ)) (takes_words : ℕ → Bool) (memories : ℕ → List ℕ) (k : ℕ → ℕ) (b : Board)
+    (i : Inputs) (signals : Joint → ℕ) (net : AreNet u cores feeds takes_words memories k b i signals) (n : ℕ) (within : n < length cores)
+    (unfed : feeder_at feeds n ≡ None) where
+  abbrev opens : Bool
+  opens = is_open feeds takes_words n
+
+  abbrev source_is : Option ℕ → Source
+  source_is o = source_of (takes_words n) o
+
+  offered_so : (takes : Bool)
+      → is_set (value u (λ (m : ⊥). []) signals (word_fed n (source_of takes None)))
+      ≡ (is_outside (source_of takes None) && is_set (signals (Offers n)))
+  offered_so true = refl
+  offered_so false = refl
+
+  word_so : (takes : Bool) → is_outside (source_of takes None) ≡ true
+      → value u (λ (m : ⊥). []) signals (word_comes n (source_of takes None)) ≡ signals (Offer n)
+  word_so true is = refl
+  word_so false is = absurd (false≢true is)
+
+  pub new_words_are : new_words (pins_of u cores feeds memories k b i n)
+      ≡ (if opens && (is_set (signals (Offers n)) && is_set (signals (Room n))) then signals (Offer n) ∷ [] else [])
+  new_words_are =
+      let before = net.of_queue n within in
+      let wires = net.wires_of_queue n within in
+      let room = is_set (signals (Room n)) in
+      let offered : is_set (i.queues n queue.InValid) ≡ (opens && is_set (signals (Offers n))) =
+      ap is_set (before.1.0 ∙ wires.0 ∙ ap (λ o. value u (λ (m : ⊥). []) signals (word_fed n (source_is o))) unfed)
+      ∙ offered_so (takes_words n) ∙ ap (λ o. is_outside (source_is o) && is_set (signals (Offers n))) (sym unfed) in
+      let word : opens ≡ true → i.queues n queue.InData ≡ signals (Offer n) = λ is.
+      before.1.1.0 ∙ wires.1.0 ∙ ap (λ o. value u (λ (m : ⊥). []) signals (word_comes n (source_is o))) unfed
+      ∙ word_so (takes_words n) (ap (λ o. is_outside (source_is o)) (sym unfed) ∙ is) in
+      ap (λ (x : ℕ). if is_set (i.queues n queue.InValid) && is_set x then i.queues n queue.InData ∷ [] else []) before.1.1.1.0
+      ∙ comes_so opens (is_set (i.queues n queue.InValid)) (is_set (signals (Offers n))) room (i.queues n queue.InData) (signals (Offer n))
+      offered word
+
 pub net_is_wired : NetIsWired
-net_is_wired u cores feeds memories k b i signals linked net = are_wired u cores feeds memories k b i signals linked net
+net_is_wired u cores feeds takes memories k b i signals linked net = are_wired u cores feeds takes memories k b i signals linked net

@@ -1,6 +1,7 @@
 -- When the circuits of cores and of queues are joined as the module says that `rtl net` prints: by the ports of their modules and by its wires.
 use Rattle.std.specs.Prelude.{◌≡◌, ℕ, zero, suc, ◌<◌, ◌≤◌, Bool, true, false, ◌&&◌, if◌then◌else◌, List, [], ◌∷◌, ◌++◌, Option, None, Some, is_some, length, slice_get}
 use Rattle.std.specs.List.{AllByRecursion}
+use Rattle.tta_list.specs.Prefix.{IsPrefixOf}
 use Rattle.tta_ops.specs.Units.{Units}
 use Rattle.tta_circuit.specs.Circuit.{Wire}
 use Rattle.tta_circuit.specs.Meaning.{is_set, value}
@@ -11,7 +12,7 @@ use Rattle.tta_queue.specs.Queue.{Pin}
 use Rattle.tta_queue.specs.Queue as queue
 use Rattle.tta_cores.specs.declared.cores.Core.{Core}
 use Rattle.tta_board.specs.Board.{Board, Inputs, Powers, lines, pins_of, board_at}
-use Rattle.tta_wiring.specs.Signals.{Joint, Reset, Outside, Word, CorePort, ResetOf, HaltedOf, CycleOf, OutValid, OutData, OutReady, InValid, InData, InReady, core_wires, queue_wires, word_valid, core_joints, queue_joints}
+use Rattle.tta_wiring.specs.Signals.{Joint, Reset, Outside, Offers, Offer, Word, Room, CorePort, ResetOf, HaltedOf, CycleOf, OutValid, OutData, OutReady, InValid, InData, InReady, source_at, is_outside, core_wires, queue_wires, word_valid, core_joints, queue_joints}
 
 -- ---- ports
 
@@ -60,8 +61,13 @@ pub record IsUnused (i : Inputs) (core : ℕ) : Type 0 where
   pub asked : is_set (i.queues core queue.OutReady) ≡ false
   pub reset : is_set (i.queues core queue.IsReset) ≡ i.reset
 
--- Cores with their code; which core feeds each; the words with which the data space of each begins; and a queue of 2^k words before each.
-module _ (u : Units) (cores : List Core) (feeds : List (Option ℕ)) (memories : ℕ → List ℕ) (k : ℕ → ℕ) where
+-- whether the words of a core come from outside, of cores that can take words or not
+abbrev pub is_open : (feeds : List (Option ℕ)) → (takes : ℕ → Bool) → (core : ℕ) → Bool
+is_open feeds takes core = is_outside (source_at feeds core (takes core))
+
+-- Cores with their code; which core feeds each; which can take words; the words with which the data space of each begins; and a queue of
+-- 2^k words before each.
+module _ (u : Units) (cores : List Core) (feeds : List (Option ℕ)) (takes : ℕ → Bool) (memories : ℕ → List ℕ) (k : ℕ → ℕ) where
   -- At a clock the circuits of cores and of queues are joined as the module says, where these are the words of its signals: each port has
   -- the word of its signal, and each wire that of its expression.
   pub record AreNet (b : Board) (i : Inputs) (signals : Joint → ℕ) : Type 0 where
@@ -70,7 +76,7 @@ module _ (u : Units) (cores : List Core) (feeds : List (Option ℕ)) (memories :
     pub of_queue : (n : ℕ) → n < length cores
         → AreJoined (queue_port (pins_of u cores feeds memories k b i n) (i.queues n)) signals (queue_joints n)
     pub wires_of_core : (n : ℕ) → n < length cores → HaveWords u signals (core_wires feeds n)
-    pub wires_of_queue : (n : ℕ) (feeder : Option ℕ) → slice_get feeds n ≡ Some feeder → HaveWords u signals (queue_wires (n, feeder))
+    pub wires_of_queue : (n : ℕ) → n < length cores → HaveWords u signals (queue_wires n (source_at feeds n (takes n)))
     pub reset : is_set (signals Reset) ≡ i.reset
     pub outside : (n : ℕ) → n < length cores → is_set (signals (Outside n)) ≡ i.outside n
     pub none : (n : ℕ) → slice_get cores n ≡ None → IsUnused i n
@@ -92,3 +98,17 @@ module _ (u : Units) (cores : List Core) (feeds : List (Option ℕ)) (memories :
     abbrev pub passed_by : (core : ℕ) → ℕ → List ℕ
     passed_by core zero = []
     passed_by core (suc t) = passed_by core t ++ (if passes core t then signals t (Word core) ∷ [] else [])
+
+    -- whether a word comes in from outside at a clock: the core has ports for it, the outside offers one, and the module shows that
+    -- there is room
+    abbrev pub enters : (core t : ℕ) → Bool
+    enters core t = is_open feeds takes core && (is_set (signals t (Offers core)) && is_set (signals t (Room core)))
+
+    -- the words that have come in from outside at the ports of a core by so many clocks
+    abbrev pub entered_by : (core : ℕ) → ℕ → List ℕ
+    entered_by core zero = []
+    entered_by core (suc t) = entered_by core t ++ (if enters core t then signals t (Offer core) ∷ [] else [])
+
+    -- What has come in by so many clocks begins what each core is given.
+    abbrev pub HaveEntered : (given : ℕ → List ℕ) → (t : ℕ) → Type 0
+    HaveEntered given t = (core : ℕ) → core < length cores → is_open feeds takes core ≡ true → IsPrefixOf (entered_by core t) (given core)

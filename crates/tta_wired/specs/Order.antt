@@ -3,7 +3,7 @@ use Rattle.std.specs.Prelude.{◌≡◌, ℕ, Bool, true, false, nat_lt, if◌th
 use Rattle.std.specs.List.{list_all, AllByRecursion}
 use Rattle.tta_circuit.specs.Circuit.{Wire}
 use Rattle.tta_circuit.specs.Order.{reads_below}
-use Rattle.tta_wiring.specs.Signals.{Joint, Reset, Outside, Halted, Cycle, Valid, Word, Asks, Room, HasWord, First, Rooms, Ready, Puts, Takes, Fed, Comes, CorePort, ResetOf, HaltedOf, CycleOf, OutValid, OutData, InReady, core_wires, queue_wires, core_joints, queue_joints}
+use Rattle.tta_wiring.specs.Signals.{Joint, Reset, Outside, Offers, Offer, Halted, Cycle, Valid, Word, Asks, Room, HasWord, First, Rooms, Ready, Puts, Takes, Fed, Comes, CorePort, ResetOf, HaltedOf, CycleOf, OutValid, OutData, InReady, source_at, core_wires, queue_wires, core_joints, queue_joints}
 
 -- The place of each signal in their order. What comes from outside is there first, and then what queues show, which hangs on what they
 -- hold alone (`queue_looks` of tta_queue); then whether words would be taken; then what cores show and do; then what they put out and take;
@@ -11,6 +11,8 @@ use Rattle.tta_wiring.specs.Signals.{Joint, Reset, Outside, Halted, Cycle, Valid
 abbrev pub joint_rank : Joint → ℕ
 joint_rank Reset = 0
 joint_rank (Outside core) = 0
+joint_rank (Offers core) = 0
+joint_rank (Offer core) = 0
 joint_rank (Room core) = 1
 joint_rank (HasWord core) = 1
 joint_rank (First core) = 1
@@ -66,8 +68,8 @@ pub record IsInOrder (feeds : List (Option ℕ)) (core : ℕ) : Type 0 where
   pub core_shows : stand_behind is_shown_by_core is_given_to_core (core_joints core) ≡ true
   pub queue_shows : stand_behind is_shown_by_queue is_looked_through (queue_joints core) ≡ true
   pub of_core : ReadBefore (core_wires feeds core)
-  pub of_queue : (feeder : Option ℕ) → ReadBefore (queue_wires (core, feeder))
+  pub of_queue : (takes : Bool) → ReadBefore (queue_wires core (source_at feeds core takes))
 
--- So it is with every core, whatever feeds it.
+-- So it is with every core, whatever feeds it, and whether or not it can take words.
 abbrev pub NetIsOrdered : Type 0
 NetIsOrdered = (feeds : List (Option ℕ)) (core : ℕ) → IsInOrder feeds core

@@ -1,7 +1,8 @@
 //! Laws of the module that joins cores by queues. A law is a function that does nothing, and whose
 //! contract is the law.
 
-ghost use Rattle.tta_wired.specs.Laws.{NetAgrees, NetFinishes, NetIsWired, NetRuns, NetSettles};
+ghost use Rattle.tta_wired.specs.Laws.{InputsComeIn, NetAgrees, NetFinishes, NetIsWired, NetRuns};
+ghost use Rattle.tta_wired.specs.Laws.{NetSettles};
 ghost use Rattle.tta_wired.specs.Order.{NetIsOrdered};
 
 /// Circuits that are joined by the ports and wires of the module are wired as the theorem of such
@@ -15,6 +16,12 @@ pub fn net_is_wired()
 /// that the core has output there.
 pub fn net_runs()
     ensures { NetRuns }
+{}
+
+/// Where the outside offers the words of an input in order, at whatever clocks, what has come in at the
+/// ports begins the input.
+pub fn inputs_come_in()
+    ensures { InputsComeIn }
 {}
 
 /// No wire of the module runs in a loop: there is an order of its signals in which each hangs only on

@@ -3,4 +3,6 @@
 
 mod laws;
 
-pub use laws::{net_agrees, net_finishes, net_is_ordered, net_is_wired, net_runs, net_settles};
+pub use laws::{
+    inputs_come_in, net_agrees, net_finishes, net_is_ordered, net_is_wired, net_runs, net_settles,
+};

@@ -1,18 +1,23 @@
 -- The signals of the module that joins cores by queues, and its wires.
-use Rattle.std.specs.Prelude.{ℕ, ◌+◌, ◌==◌, Bool, false, if◌then◌else◌, List, [], ◌∷◌, Option, codes}
+use Rattle.std.specs.Prelude.{ℕ, ◌+◌, ◌==◌, Bool, true, false, if◌then◌else◌, List, [], ◌∷◌, Option, None, Some, slice_get, codes}
 use Rattle.std.specs.Option.{option_map_or}
 use Rattle.tta_circuit.specs.Circuit.{Expr, Const, Signal, Both, Wire}
 use Rattle.tta_verilog.specs.Expressions.{Names}
+use Rattle.tta_wiring.specs.declared.part.Source.{Source}
+use Rattle.tta_wiring.specs.declared.part.Source.TheVariants as source
 use Rattle.tta_wiring.specs.Queues.{numbered}
 
--- Its signals, most of them one for each core. The input `Reset` says whether all begins anew, and `Outside` whether the outside would take
--- a word of a core. A core shows whether it has halted, whether it carries an instruction out, whether it has a word to put out, that word,
--- and whether it would take one; the queue before it, whether it has room, whether it has a word, and the first. The wires are whether each
--- queue that a core feeds has room, whether a word of the core would be taken, whether it puts one out, and whether it takes one; and
--- whether its queue is offered a word, and that word.
+-- Its signals, most of them one for each core. The input `Reset` says whether all begins anew, and `Outside` whether the outside would
+-- take a word of a core; `Offers` whether it offers one to the queue before a core that no other feeds, and `Offer` is that word. A core
+-- shows whether it has halted, whether it carries an instruction out, whether it has a word to put out, that word, and whether it would
+-- take one; the queue before it, whether it has room, whether it has a word, and the first. The wires are whether each queue that a core
+-- feeds has room, whether a word of the core would be taken, whether it puts one out, and whether it takes one; and whether its queue is
+-- offered a word, and that word.
 pub data Joint : Type 0 where
   Reset : Joint
   Outside : (core : ℕ) → Joint
+  Offers : (core : ℕ) → Joint
+  Offer : (core : ℕ) → Joint
   Halted : (core : ℕ) → Joint
   Cycle : (core : ℕ) → Joint
   Valid : (core : ℕ) → Joint
@@ -32,6 +37,8 @@ pub data Joint : Type 0 where
 abbrev pub joint_name : Joint → List ℕ
 joint_name Reset = codes "reset"
 joint_name (Outside core) = numbered (codes "out_ready_") core
+joint_name (Offers core) = numbered (codes "in_valid_") core
+joint_name (Offer core) = numbered (codes "in_data_") core
 joint_name (Halted core) = numbered (codes "halted_") core
 joint_name (Cycle core) = numbered (codes "cycle_") core
 joint_name (Valid core) = numbered (codes "valid_") core
@@ -77,11 +84,44 @@ core_wires feeds core =
 abbrev pub word_valid : (core : ℕ) → Expr Joint ⊥
 word_valid core = Both (Signal (Valid core)) (Signal (Rooms core))
 
--- What the queue before a core is offered: what the core's feeder puts out (`fed` of AreWired), and nothing where it has none (`unfed`).
-abbrev pub queue_wires : ℕ × Option ℕ → List (Wire Joint ⊥)
-queue_wires q =
-    record { name = Fed q.0; width = 1; word = option_map_or (λ f. Signal (Puts f)) q.1 (Const 1 0) }
-    ∷ record { name = Comes q.0; width = 32; word = option_map_or (λ f. Signal (Word f)) q.1 (Const 32 0) } ∷ []
+-- ---- what queues are offered
+
+-- which core feeds a core, if one does
+abbrev pub feeder_at : (feeds : List (Option ℕ)) → (core : ℕ) → Option ℕ
+feeder_at feeds core = option_map_or (λ f. f) (slice_get feeds core) None
+
+-- where the words of a core come from: from its feeder; where it has none, from outside, if its machine can take words; and else from
+-- nowhere
+abbrev pub source_of : (takes : Bool) → (feeder : Option ℕ) → Source
+source_of takes None = if takes then source.Outside else source.Nothing
+source_of takes (Some feeder) = source.Feeder feeder
+
+abbrev pub source_at : (feeds : List (Option ℕ)) → (core : ℕ) → (takes : Bool) → Source
+source_at feeds core takes = source_of takes (feeder_at feeds core)
+
+-- whether they come from outside
+abbrev pub is_outside : Source → Bool
+is_outside (source.Feeder feeder) = false
+is_outside source.Outside = true
+is_outside source.Nothing = false
+
+-- whether the queue before a core is offered a word
+abbrev pub fed_by : (core : ℕ) → Source → Expr Joint ⊥
+fed_by core (source.Feeder feeder) = Signal (Puts feeder)
+fed_by core source.Outside = Signal (Offers core)
+fed_by core source.Nothing = Const 1 0
+
+-- and that word
+abbrev pub comes_by : (core : ℕ) → Source → Expr Joint ⊥
+comes_by core (source.Feeder feeder) = Signal (Word feeder)
+comes_by core source.Outside = Signal (Offer core)
+comes_by core source.Nothing = Const 32 0
+
+-- What the queue before a core is offered: what the core's feeder puts out (`fed` of AreWired), or what the outside offers, or nothing.
+abbrev pub queue_wires : (core : ℕ) → Source → List (Wire Joint ⊥)
+queue_wires core source =
+    record { name = Fed core; width = 1; word = fed_by core source }
+    ∷ record { name = Comes core; width = 32; word = comes_by core source } ∷ []
 
 -- ---- the modules below it
 

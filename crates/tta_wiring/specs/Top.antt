@@ -5,8 +5,10 @@ use Rattle.tta_verilog.specs.Expressions.{expression}
 use Rattle.tta_verilog.specs.Circuits.{range, wire_text}
 use Rattle.tta_wiring.specs.declared.part.Part.{Part}
 use Rattle.tta_wiring.specs.declared.part.Part.TheVariants as part
+use Rattle.tta_wiring.specs.declared.part.Ends.{Ends}
+use Rattle.tta_wiring.specs.declared.part.Source.{Source}
 use Rattle.tta_wiring.specs.Queues.{numbered}
-use Rattle.tta_wiring.specs.Signals.{Joint, CorePort, joint_name, joint_names, core_wires, queue_wires, word_valid, port_name, core_joints, queue_joints}
+use Rattle.tta_wiring.specs.Signals.{Joint, CorePort, joint_name, joint_names, core_wires, queue_wires, source_at, is_outside, word_valid, port_name, core_joints, queue_joints}
 
 -- ---- its ports
 
@@ -14,9 +16,16 @@ use Rattle.tta_wiring.specs.Signals.{Joint, CorePort, joint_name, joint_names, c
 unfoldable pub word_names : (core : ℕ) → List ℕ
 word_names core = numbered (codes ", out_valid_") core ++ (numbered (codes ", out_data_") core ++ numbered (codes ", out_ready_") core)
 
--- those of a core there: whether it has halted, and where it can put words out, those of the words
-unfoldable pub port_names : ℕ × Bool → List ℕ
-port_names c = numbered (codes ", halted_") c.0 ++ (if c.1 then word_names c.0 else [])
+-- those of the words that a core takes from outside
+unfoldable pub input_names : (core : ℕ) → List ℕ
+input_names core = numbered (codes ", in_valid_") core ++ (numbered (codes ", in_data_") core ++ numbered (codes ", in_ready_") core)
+
+-- those of a core there: whether it has halted; where it can put words out, those of the words; and those of the words that it takes where
+-- they come from outside
+unfoldable pub port_names : (core : ℕ) → (gives : Bool) → Source → List ℕ
+port_names core gives source =
+    numbered (codes ", halted_") core
+    ++ ((if gives then word_names core else []) ++ (if is_outside source then input_names core else []))
 
 -- the ports of the words of a core, as they are declared
 unfoldable pub word_ports : (core : ℕ) → List ℕ
@@ -28,9 +37,17 @@ word_ports core =
 unfoldable pub no_ports : (core : ℕ) → List ℕ
 no_ports core = numbered (codes ";\nwire [0:0] out_ready_") core ++ codes " = 1'd0;\n"
 
+-- the ports of the words that a core takes from outside, as they are declared
+unfoldable pub input_ports : (core : ℕ) → List ℕ
+input_ports core =
+    numbered (codes "input [0:0] in_valid_") core ++ (numbered (codes ";\ninput [31:0] in_data_") core
+    ++ (numbered (codes ";\noutput [0:0] in_ready_") core ++ codes ";\n"))
+
 -- the ports of a core, as they are declared
-unfoldable pub ports_text : ℕ × Bool → List ℕ
-ports_text c = numbered (codes "output [0:0] halted_") c.0 ++ (if c.1 then word_ports c.0 else no_ports c.0)
+unfoldable pub ports_text : (core : ℕ) → (gives : Bool) → Source → List ℕ
+ports_text core gives source =
+    numbered (codes "output [0:0] halted_") core
+    ++ ((if gives then word_ports core else no_ports core) ++ (if is_outside source then input_ports core else []))
 
 -- what the ports of words show
 unfoldable pub word_shown : (core : ℕ) → List ℕ
@@ -38,9 +55,13 @@ word_shown core =
     numbered (codes "assign out_valid_") core ++ (codes " = " ++ (expression joint_names (word_valid core)
     ++ (numbered (codes ";\nassign out_data_") core ++ (numbered (codes " = word_") core ++ codes ";\n"))))
 
+-- a word from outside is taken where the queue before the core has room
+unfoldable pub input_shown : (core : ℕ) → List ℕ
+input_shown core = numbered (codes "assign in_ready_") core ++ (numbered (codes " = room_") core ++ codes ";\n")
+
 -- what the ports of a core show
-abbrev pub shown_text : ℕ × Bool → List ℕ
-shown_text c = if c.1 then word_shown c.0 else []
+abbrev pub shown_text : (core : ℕ) → (gives : Bool) → Source → List ℕ
+shown_text core gives source = (if gives then word_shown core else []) ++ (if is_outside source then input_shown core else [])
 
 -- ---- its wires
 
@@ -59,8 +80,8 @@ driven_text core =
 unfoldable pub core_wires_text : (feeds : List (Option ℕ)) → (core : ℕ) → List ℕ
 core_wires_text feeds core = flat_map (wire_text joint_names) (core_wires feeds core)
 
-unfoldable pub queue_wires_text : ℕ × Option ℕ → List ℕ
-queue_wires_text q = flat_map (wire_text joint_names) (queue_wires q)
+unfoldable pub queue_wires_text : (core : ℕ) → Source → List ℕ
+queue_wires_text core source = flat_map (wire_text joint_names) (queue_wires core source)
 
 -- ---- the modules below it
 
@@ -85,34 +106,34 @@ queue_text core =
 -- ---- the module
 
 -- what a part says of a core, where this core feeds each
-abbrev pub part_text : Part → (feeds : List (Option ℕ)) → ℕ × Bool → List ℕ
-part_text part.Names feeds c = port_names c
-part_text part.Ports feeds c = ports_text c
+abbrev pub part_text : Part → (feeds : List (Option ℕ)) → ℕ × Ends → List ℕ
+part_text part.Names feeds c = port_names c.0 c.1.gives (source_at feeds c.0 c.1.takes)
+part_text part.Ports feeds c = ports_text c.0 c.1.gives (source_at feeds c.0 c.1.takes)
 part_text part.Driven feeds c = driven_text c.0
 part_text part.Wires feeds c = core_wires_text feeds c.0
-part_text part.Shown feeds c = shown_text c
+part_text part.Offered feeds c = queue_wires_text c.0 (source_at feeds c.0 c.1.takes)
+part_text part.Shown feeds c = shown_text c.0 c.1.gives (source_at feeds c.0 c.1.takes)
 part_text part.Core feeds c = core_text c.0
 part_text part.Queue feeds c = queue_text c.0
 
--- what a part says of all cores, of which some can put words out
-abbrev pub each_text : Part → (gives : List Bool) → (feeds : List (Option ℕ)) → List ℕ
-each_text what gives feeds = flat_map (part_text what feeds) (enumerate_from 0 gives)
+-- what a part says of all cores, which have these words
+abbrev pub each_text : Part → List Ends → (feeds : List (Option ℕ)) → List ℕ
+each_text what ends feeds = flat_map (part_text what feeds) (enumerate_from 0 ends)
 
 -- the ports
-abbrev pub head_text : (gives : List Bool) → (feeds : List (Option ℕ)) → List ℕ
-head_text gives feeds =
-    codes "module tta_net (clk, reset" ++ (each_text part.Names gives feeds
-    ++ (codes ");\ninput clk;\ninput [0:0] reset;\n" ++ each_text part.Ports gives feeds))
+abbrev pub head_text : List Ends → (feeds : List (Option ℕ)) → List ℕ
+head_text ends feeds =
+    codes "module tta_net (clk, reset" ++ (each_text part.Names ends feeds
+    ++ (codes ");\ninput clk;\ninput [0:0] reset;\n" ++ each_text part.Ports ends feeds))
 
 -- the wires: first those that modules drive, and then all others
-abbrev pub wires_text : (gives : List Bool) → (feeds : List (Option ℕ)) → List ℕ
-wires_text gives feeds =
-    each_text part.Driven gives feeds
-    ++ (each_text part.Wires gives feeds ++ flat_map queue_wires_text (enumerate_from 0 feeds))
+abbrev pub wires_text : List Ends → (feeds : List (Option ℕ)) → List ℕ
+wires_text ends feeds =
+    each_text part.Driven ends feeds ++ (each_text part.Wires ends feeds ++ each_text part.Offered ends feeds)
 
--- The module of cores, of which some can put words out, where this core feeds each: ports, wires, what the ports show, and the modules
--- of the cores and of the queues before them.
-abbrev pub top_text : (gives : List Bool) → (feeds : List (Option ℕ)) → List ℕ
-top_text gives feeds =
-    head_text gives feeds ++ (wires_text gives feeds ++ (each_text part.Shown gives feeds
-    ++ (each_text part.Core gives feeds ++ (each_text part.Queue gives feeds ++ codes "endmodule\n"))))
+-- The module of cores that have these words, where this core feeds each: ports, wires, what the ports show, and the modules of the cores
+-- and of the queues before them.
+abbrev pub top_text : List Ends → (feeds : List (Option ℕ)) → List ℕ
+top_text ends feeds =
+    head_text ends feeds ++ (wires_text ends feeds ++ (each_text part.Shown ends feeds
+    ++ (each_text part.Core ends feeds ++ (each_text part.Queue ends feeds ++ codes "endmodule\n"))))

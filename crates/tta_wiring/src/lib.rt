@@ -5,8 +5,10 @@ mod joining;
 mod part;
 mod queue;
 mod registers;
+mod source;
 mod top;
 mod wiring;
 
+pub use part::Ends;
 pub use queue::{push_numbered, push_queues};
 pub use top::push_top;

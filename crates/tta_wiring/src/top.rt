@@ -2,12 +2,14 @@
 
 ghost use Rattle.std.specs.Prelude.{◌≡◌, ◌≤◌, ◌+◌, [], ◌++◌, if◌then◌else◌, length, OnOk};
 ghost use Rattle.std.specs.List.{flat_map, enumerate_from};
+ghost use Rattle.tta_wiring.specs.Signals as s;
 ghost use Rattle.tta_wiring.specs.Top as p;
 
 use crate::joining::{push_core, push_queue};
-use crate::part::Part;
+use crate::part::{Ends, Part, Source};
 use crate::queue::push_numbered;
-use crate::wiring::{push_all_queue_wires, push_both, push_core_wires};
+use crate::source::{is_outside, push_queue_wires, source_at};
+use crate::wiring::{push_both, push_core_wires};
 use std::alloc::AllocError;
 use tta_verilog::push_text;
 
@@ -33,13 +35,42 @@ fn push_given_names(out: &mut Vec<u8>, core: u8, gives: bool) -> Result<(), Allo
     }
 }
 
-/// Puts the names of the ports of a core, which can put words out or not.
+/// Puts the names of the ports of the words that a core takes from outside.
+#[tactic(auto, unfolding(crate::specs::Top::input_names))]
+fn push_input_names(out: &mut Vec<u8>, core: u8) -> Result<(), AllocError>
+    ensures { OnOk result (out.new.items ≡ out.old.items ++ p.input_names core) }
+{
+    push_numbered(out, b", in_valid_", core)?;
+    push_numbered(out, b", in_data_", core)?;
+    push_numbered(out, b", in_ready_", core)
+}
+
+/// Puts them where words come from outside.
+fn push_taken_names(out: &mut Vec<u8>, core: u8, source: Source) -> Result<(), AllocError>
+    ensures { OnOk result (out.new.items ≡ out.old.items
+        ++ (if s.is_outside source then p.input_names core else [])) }
+{
+    if is_outside(source) {
+        push_input_names(out, core)
+    } else {
+        Ok(())
+    }
+}
+
+/// Puts the names of the ports of a core, which can put words out or not, and whose words come
+/// from here.
 #[tactic(auto, unfolding(crate::specs::Top::port_names))]
-fn push_port_names(out: &mut Vec<u8>, core: u8, gives: bool) -> Result<(), AllocError>
-    ensures { OnOk result (out.new.items ≡ out.old.items ++ p.port_names (core, gives)) }
+fn push_port_names(
+    out: &mut Vec<u8>,
+    core: u8,
+    gives: bool,
+    source: Source,
+) -> Result<(), AllocError>
+    ensures { OnOk result (out.new.items ≡ out.old.items ++ p.port_names core gives source) }
 {
     push_numbered(out, b", halted_", core)?;
-    push_given_names(out, core, gives)
+    push_given_names(out, core, gives)?;
+    push_taken_names(out, core, source)
 }
 
 /// Puts the ports of the words of a core, as they are declared.
@@ -74,13 +105,37 @@ fn push_given_ports(out: &mut Vec<u8>, core: u8, gives: bool) -> Result<(), Allo
     }
 }
 
+/// Puts the ports of the words that a core takes from outside, as they are declared.
+#[tactic(auto, unfolding(crate::specs::Top::input_ports))]
+fn push_input_ports(out: &mut Vec<u8>, core: u8) -> Result<(), AllocError>
+    ensures { OnOk result (out.new.items ≡ out.old.items ++ p.input_ports core) }
+{
+    push_numbered(out, b"input [0:0] in_valid_", core)?;
+    push_numbered(out, b";\ninput [31:0] in_data_", core)?;
+    push_numbered(out, b";\noutput [0:0] in_ready_", core)?;
+    push_text(out, b";\n")
+}
+
+/// Puts them where words come from outside.
+fn push_taken_ports(out: &mut Vec<u8>, core: u8, source: Source) -> Result<(), AllocError>
+    ensures { OnOk result (out.new.items ≡ out.old.items
+        ++ (if s.is_outside source then p.input_ports core else [])) }
+{
+    if is_outside(source) {
+        push_input_ports(out, core)
+    } else {
+        Ok(())
+    }
+}
+
 /// Puts the ports of a core, as they are declared.
 #[tactic(auto, unfolding(crate::specs::Top::ports_text))]
-fn push_ports(out: &mut Vec<u8>, core: u8, gives: bool) -> Result<(), AllocError>
-    ensures { OnOk result (out.new.items ≡ out.old.items ++ p.ports_text (core, gives)) }
+fn push_ports(out: &mut Vec<u8>, core: u8, gives: bool, source: Source) -> Result<(), AllocError>
+    ensures { OnOk result (out.new.items ≡ out.old.items ++ p.ports_text core gives source) }
 {
     push_numbered(out, b"output [0:0] halted_", core)?;
-    push_given_ports(out, core, gives)
+    push_given_ports(out, core, gives)?;
+    push_taken_ports(out, core, source)
 }
 
 /// Puts what the ports of the words of a core show.
@@ -96,12 +151,35 @@ fn push_word_shown(out: &mut Vec<u8>, core: u8) -> Result<(), AllocError>
     push_text(out, b";\n")
 }
 
-/// Puts what the ports of a core show, where it can put words out.
-fn push_shown(out: &mut Vec<u8>, core: u8, gives: bool) -> Result<(), AllocError>
-    ensures { OnOk result (out.new.items ≡ out.old.items ++ p.shown_text (core, gives)) }
+/// Puts that where a core can put words out.
+fn push_given_shown(out: &mut Vec<u8>, core: u8, gives: bool) -> Result<(), AllocError>
+    ensures { OnOk result (out.new.items ≡ out.old.items
+        ++ (if gives then p.word_shown core else [])) }
 {
     if gives {
         push_word_shown(out, core)
+    } else {
+        Ok(())
+    }
+}
+
+/// Puts that a word is taken from outside where the queue before the core has room.
+#[tactic(auto, unfolding(crate::specs::Top::input_shown))]
+fn push_input_shown(out: &mut Vec<u8>, core: u8) -> Result<(), AllocError>
+    ensures { OnOk result (out.new.items ≡ out.old.items ++ p.input_shown core) }
+{
+    push_numbered(out, b"assign in_ready_", core)?;
+    push_numbered(out, b" = room_", core)?;
+    push_text(out, b";\n")
+}
+
+/// Puts what the ports of a core show.
+fn push_shown(out: &mut Vec<u8>, core: u8, gives: bool, source: Source) -> Result<(), AllocError>
+    ensures { OnOk result (out.new.items ≡ out.old.items ++ p.shown_text core gives source) }
+{
+    push_given_shown(out, core, gives)?;
+    if is_outside(source) {
+        push_input_shown(out, core)
     } else {
         Ok(())
     }
@@ -128,37 +206,40 @@ fn push_part(
     part: Part,
     feeds: &[Option<u8>],
     core: u8,
-    gives: bool,
+    ends: Ends,
 ) -> Result<(), AllocError>
     requires { length feeds.now ≤ 255 }
     ensures { OnOk result (out.new.items ≡ out.old.items
-        ++ p.part_text part feeds.now (core, gives)) }
+        ++ p.part_text part feeds.now (core, ends)) }
 {
+    let Ends { gives, takes } = ends;
+    let source = source_at(feeds, core, takes);
     match part {
-        Part::Names => push_port_names(out, core, gives),
-        Part::Ports => push_ports(out, core, gives),
+        Part::Names => push_port_names(out, core, gives, source),
+        Part::Ports => push_ports(out, core, gives, source),
         Part::Driven => push_driven(out, core),
         Part::Wires => push_core_wires(out, feeds, core),
-        Part::Shown => push_shown(out, core, gives),
+        Part::Offered => push_queue_wires(out, core, source),
+        Part::Shown => push_shown(out, core, gives, source),
         Part::Core => push_core(out, core),
         Part::Queue => push_queue(out, core),
     }
 }
 
-/// Puts what a part says of the cores from one on, which can put words out or not.
+/// Puts what a part says of the cores from one on, which have these words.
 fn push_each(
     out: &mut Vec<u8>,
     part: Part,
     feeds: &[Option<u8>],
     core: u8,
-    gives: &[bool],
+    ends: &[Ends],
 ) -> Result<(), AllocError>
     requires feeds { length feeds.now ≤ 255 }
-    requires few { core + length gives.now ≤ 255 }
+    requires few { core + length ends.now ≤ 255 }
     ensures { OnOk result (out.new.items ≡ out.old.items
-        ++ flat_map (p.part_text part feeds.now) (enumerate_from core gives.now)) }
+        ++ flat_map (p.part_text part feeds.now) (enumerate_from core ends.now)) }
 {
-    match gives {
+    match ends {
         [] => Ok(()),
         [first, rest @ ..] => {
             push_part(out, part, feeds, core, *first)?;
@@ -168,39 +249,38 @@ fn push_each(
 }
 
 /// Puts the ports of the module that joins cores by queues.
-fn push_head(out: &mut Vec<u8>, gives: &[bool], feeds: &[Option<u8>]) -> Result<(), AllocError>
+fn push_head(out: &mut Vec<u8>, ends: &[Ends], feeds: &[Option<u8>]) -> Result<(), AllocError>
     requires feeds { length feeds.now ≤ 255 }
-    requires few { length gives.now ≤ 255 }
-    ensures { OnOk result (out.new.items ≡ out.old.items ++ p.head_text gives.now feeds.now) }
+    requires few { length ends.now ≤ 255 }
+    ensures { OnOk result (out.new.items ≡ out.old.items ++ p.head_text ends.now feeds.now) }
 {
     push_text(out, b"module tta_net (clk, reset")?;
-    push_each(out, Part::Names, feeds, 0, gives)?;
+    push_each(out, Part::Names, feeds, 0, ends)?;
     push_text(out, b");\ninput clk;\ninput [0:0] reset;\n")?;
-    push_each(out, Part::Ports, feeds, 0, gives)
+    push_each(out, Part::Ports, feeds, 0, ends)
 }
 
 /// Puts its wires.
-fn push_wires(out: &mut Vec<u8>, gives: &[bool], feeds: &[Option<u8>]) -> Result<(), AllocError>
+fn push_wires(out: &mut Vec<u8>, ends: &[Ends], feeds: &[Option<u8>]) -> Result<(), AllocError>
     requires feeds { length feeds.now ≤ 255 }
-    requires few { length gives.now ≤ 255 }
-    ensures { OnOk result (out.new.items ≡ out.old.items ++ p.wires_text gives.now feeds.now) }
+    requires few { length ends.now ≤ 255 }
+    ensures { OnOk result (out.new.items ≡ out.old.items ++ p.wires_text ends.now feeds.now) }
 {
-    push_each(out, Part::Driven, feeds, 0, gives)?;
-    push_each(out, Part::Wires, feeds, 0, gives)?;
-    push_all_queue_wires(out, 0, feeds)
+    push_each(out, Part::Driven, feeds, 0, ends)?;
+    push_each(out, Part::Wires, feeds, 0, ends)?;
+    push_each(out, Part::Offered, feeds, 0, ends)
 }
 
-/// Puts the module that joins cores by queues, of which some can put words out, where this core feeds
-/// each.
-pub fn push_top(out: &mut Vec<u8>, gives: &[bool], feeds: &[Option<u8>]) -> Result<(), AllocError>
+/// Puts the module that joins cores by queues, which have these words, where this core feeds each.
+pub fn push_top(out: &mut Vec<u8>, ends: &[Ends], feeds: &[Option<u8>]) -> Result<(), AllocError>
     requires feeds { length feeds.now ≤ 255 }
-    requires few { length gives.now ≤ 255 }
-    ensures { OnOk result (out.new.items ≡ out.old.items ++ p.top_text gives.now feeds.now) }
+    requires few { length ends.now ≤ 255 }
+    ensures { OnOk result (out.new.items ≡ out.old.items ++ p.top_text ends.now feeds.now) }
 {
-    push_head(out, gives, feeds)?;
-    push_wires(out, gives, feeds)?;
-    push_each(out, Part::Shown, feeds, 0, gives)?;
-    push_each(out, Part::Core, feeds, 0, gives)?;
-    push_each(out, Part::Queue, feeds, 0, gives)?;
+    push_head(out, ends, feeds)?;
+    push_wires(out, ends, feeds)?;
+    push_each(out, Part::Shown, feeds, 0, ends)?;
+    push_each(out, Part::Core, feeds, 0, ends)?;
+    push_each(out, Part::Queue, feeds, 0, ends)?;
     push_text(out, b"endmodule\n")
 }

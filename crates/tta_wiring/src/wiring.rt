@@ -1,8 +1,6 @@
 //! The wires of the module that joins cores by queues.
 
 ghost use Rattle.std.specs.Prelude.{◌≡◌, ◌≤◌, ◌+◌, ◌++◌, codes, length, OnOk};
-ghost use Rattle.std.specs.List.{flat_map, enumerate_from};
-ghost use Rattle.std.specs.Option.{option_map_or};
 ghost use Rattle.tta_verilog.specs.Expressions as e;
 ghost use Rattle.tta_verilog.specs.Circuits as v;
 ghost use Rattle.tta_wiring.specs.Queues.{numbered};
@@ -25,7 +23,7 @@ fn is_feeder(feeder: u8, feed: Option<u8>) -> bool
 
 /// Puts how the line of a wire of a core begins.
 #[tactic(auto, unfolding(crate::specs::Top::wire_start))]
-fn start_wire(out: &mut Vec<u8>, what: &[u8], core: u8, width: u32) -> Result<(), AllocError>
+pub fn start_wire(out: &mut Vec<u8>, what: &[u8], core: u8, width: u32) -> Result<(), AllocError>
     ensures { OnOk result (out.new.items ≡ out.old.items
         ++ p.wire_start (numbered what.now core) width) }
 {
@@ -115,67 +113,4 @@ pub fn push_core_wires(out: &mut Vec<u8>, feeds: &[Option<u8>], core: u8) -> Res
     push_pair(out, b"ready_", b"out_ready_", b"rooms_", core)?;
     push_pair(out, b"puts_", b"cycle_", b"valid_", core)?;
     push_pair(out, b"takes_", b"cycle_", b"asks_", core)
-}
-
-/// Puts a signal of the core that feeds another, or a constant 0 where there is none.
-fn push_source(
-    out: &mut Vec<u8>,
-    what: &[u8],
-    width: u32,
-    feed: Option<u8>,
-) -> Result<(), AllocError>
-    ensures { OnOk result (out.new.items ≡ out.old.items
-        ++ option_map_or (λ f. numbered what.now f) feed (e.constant width 0)) }
-{
-    match feed {
-        Some(core) => push_numbered(out, what, core),
-        None => push_constant(out, width, 0),
-    }
-}
-
-/// Puts a wire of the queue before a core, with that word.
-#[tactic(auto, unfolding(crate::specs::Top::wire_start, tta_verilog::specs::Circuits::wire_line))]
-fn push_source_wire(
-    out: &mut Vec<u8>,
-    name: &[u8],
-    core: u8,
-    what: &[u8],
-    width: u32,
-    feed: Option<u8>,
-) -> Result<(), AllocError>
-    ensures { OnOk result (out.new.items ≡ out.old.items
-        ++ v.wire_line (numbered name.now core) width
-        (option_map_or (λ f. numbered what.now f) feed (e.constant width 0))) }
-{
-    start_wire(out, name, core, width)?;
-    push_source(out, what, width, feed)?;
-    push_text(out, b";\n")
-}
-
-/// Puts the wires of the queue before a core: whether it is offered a word, and that word.
-#[tactic(auto, unfolding(crate::specs::Top::queue_wires_text))]
-fn push_queue_wires(out: &mut Vec<u8>, core: u8, feed: Option<u8>) -> Result<(), AllocError>
-    ensures { OnOk result (out.new.items ≡ out.old.items ++ p.queue_wires_text (core, feed)) }
-{
-    push_source_wire(out, b"fed_", core, b"puts_", 1, feed)?;
-    push_source_wire(out, b"comes_", core, b"word_", 32, feed)
-}
-
-/// Puts the wires of the queues before the cores from one on, where this core feeds each.
-pub fn push_all_queue_wires(
-    out: &mut Vec<u8>,
-    core: u8,
-    feeds: &[Option<u8>],
-) -> Result<(), AllocError>
-    requires { core + length feeds.now ≤ 255 }
-    ensures { OnOk result (out.new.items ≡ out.old.items
-        ++ flat_map p.queue_wires_text (enumerate_from core feeds.now)) }
-{
-    match feeds {
-        [] => Ok(()),
-        [feed, rest @ ..] => {
-            push_queue_wires(out, core, *feed)?;
-            push_all_queue_wires(out, core + 1, rest)
-        }
-    }
 }

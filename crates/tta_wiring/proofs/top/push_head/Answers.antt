@@ -8,11 +8,11 @@ use Rattle.tta_wiring.proofs.top.push_head.Goals as goal
 
 pub returns : goal.returns
 returns c =
-    let gives = c.args.gives.now in
+    let ends = c.args.ends.now in
     let feeds = c.args.feeds.now in
     let line = codes ");\ninput clk;\ninput [0:0] reset;\n" in
-    let names = each_text part.Names gives feeds in
-    let ports = each_text part.Ports gives feeds in
+    let names = each_text part.Names ends feeds in
+    let ports = each_text part.Ports ends feeds in
     onward c.push_each-2.result (λ last.
     then_more _ _ _ (codes "module tta_net (clk, reset") (names ++ (line ++ ports)) c.in_ok-push_text.ensures
     (then_more _ _ _ names (line ++ ports) c.in_ok-push_each.ensures
