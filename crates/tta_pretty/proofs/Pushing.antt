@@ -10,7 +10,7 @@ use Rattle.tta_pretty.specs.Printed.{Printed, Words, Label, label_name, word, va
 use Rattle.tta_pretty.specs.Printing.{spaced_after, proc_text}
 
 -- no procedure of few steps has many
-steps_short : (qs : List Proc) (n : ℕ) → sum_by (λ q. length q.steps) qs ≤ n → AllByRecursion (λ q. length q.steps ≤ n) qs
+pub steps_short : (qs : List Proc) (n : ℕ) → sum_by (λ q. length q.steps) qs ≤ n → AllByRecursion (λ q. length q.steps ≤ n) qs
 steps_short [] n le = tt
 steps_short (q ∷ qs) n le =
     let sum = sum_by-cons (λ (x : Proc). length x.steps) q qs in

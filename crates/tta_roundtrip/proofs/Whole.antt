@@ -15,7 +15,8 @@ use Rattle.tta_roundtrip.specs.Readable.{IsReadable, is_in_order}
 use Rattle.tta_roundtrip.specs.Statement.{IsSameProc, ReadsBack, PrintedIsRead}
 use Rattle.tta_roundtrip.proofs.Names.{main_named}
 use Rattle.tta_roundtrip.proofs.Said.{steps_form, procs_form, data_form, program_form, numbered_from, numbered_append, numbered_length, said_read, lines_are, count_read}
-use Rattle.tta_roundtrip.proofs.Reading.{program_read, printed_lines, steps_short}
+use Rattle.tta_roundtrip.proofs.Reading.{program_read, printed_lines}
+use Rattle.tta_pretty.proofs.Pushing.{steps_short}
 use Rattle.tta_roundtrip.proofs.Nesting.{relined, blocks_form, procs_nested, procs_blocks, procs_data, data_nested, data_blocks, data_data}
 use Rattle.tta_roundtrip.proofs.Variables.{vars, vars_length}
 use Rattle.tta_roundtrip.proofs.Unlinking.{vars_in, names_in, labels_once}
