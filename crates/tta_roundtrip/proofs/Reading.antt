@@ -10,6 +10,7 @@ use Rattle.tta_roundtrip.specs.Cited.{is_name, is_run, lines_of, Units, Src, Var
 use Rattle.tta_list.proofs.Tests.{and_left, and_right}
 use Rattle.tta_list.proofs.Lists.{all_append}
 use Rattle.tta_pretty.specs.Printed.{Words, Label, word, var_name, label_name, proc_name, var_names, words, src_word, src_words, rel_name, operand_words, lines_printed, data_lines, proc_lines, step_lines, label_before, step_line, printed}
+use Rattle.tta_pretty.proofs.Pushing.{steps_short}
 use Rattle.tta_roundtrip.specs.Readable.{is_named, IsReadable}
 use Rattle.tta_roundtrip.proofs.ScannedLines.{IsWord, AreWords, CanBePrinted, words_of, lines_of_printed}
 use Rattle.tta_roundtrip.proofs.Forms.{IsShort, Reads, proc_read, data_read, label_read, store_read, put_read, if_read, goto_read, when_read, call_read, return_read, return_none_read, halt_read, end_read, assign_read, copy_read, take_read, load_read, called_read}
