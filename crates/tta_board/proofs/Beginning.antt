@@ -95,7 +95,7 @@ module _ (u : Units) (cores : List Core) (feeds : List (Option ℕ)) (memories :
             frame = ap (λ (o : Option Core). (core_after u cores feeds memories k board (i t) core o).memories Frame) there
                 ∙ frame_stays u c.machine c.code (memories core) (held t core) ((i t).cores core) stops ∙ old.frame;
             rom = ap (λ (o : Option Core). (core_after u cores feeds memories k board (i t) core o).memories Code) there
-                ∙ rom_stays u c.machine c.code (memories core) (held t core) ((i t).cores core) stops ∙ old.rom;
+                ∙ rom_stays u c.machine c.code (memories core) (held t core) ((i t).cores core) ∙ old.rom;
           }
 
       -- such clocks put nothing out

@@ -232,7 +232,7 @@ module _ (u : Units) (cores : List Core) (feeds : List (Option ℕ)) (memories :
           (passing.not_reset u cores feeds memories k b i wired on core c there))
           (data_stays u c.machine c.code (memories core) (b.cores core) (i.cores core) stops)
           (frame_stays u c.machine c.code (memories core) (b.cores core) (i.cores core) stops)
-          (rom_stays u c.machine c.code (memories core) (b.cores core) (i.cores core) stops) s.stands);
+          (rom_stays u c.machine c.code (memories core) (b.cores core) (i.cores core)) s.stands);
       goes_on = s.goes_on;
       fine = s.fine;
     }

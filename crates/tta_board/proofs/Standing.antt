@@ -71,7 +71,7 @@ stands_anew u m code memory h inputs sized legal same_data frame rom reset = rec
   whole = fetched_at m code (h.memories Code) (after.words Pc) (after.words Whole) 0 pc_is rom
       (whole_begins u m code memory h inputs reset) legal;
   halted = ap is_set (halted_begins u m code memory h inputs reset);
-  rom = rom_stays u m code memory h inputs stops ∙ rom;
+  rom = rom_stays u m code memory h inputs ∙ rom;
   spaces = record {
     memory = data_stays u m code memory h inputs stops ∙ same_data;
     frame = frame_stays u m code memory h inputs stops ∙ frame;
