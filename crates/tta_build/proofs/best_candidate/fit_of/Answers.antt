@@ -4,8 +4,8 @@ use Rattle.tta_build.specs.Cited.{BlockList, Item, Placed, Respects, IsFirstFit,
 use Rattle.tta_build.specs.Trail.{last_of}
 use Rattle.tta_build.proofs.best_candidate.fit_of.Goals as goal
 
-pub place-placed-requires-clause-list : goal.place-placed-requires-clause-list
-place-placed-requires-clause-list c = subst (λ (b : BlockList). is_list c.args.on.now.joined.machine.now b.items ≡ true) (sym c.last.ensures) c.requires.list
+pub place-placed-requires : goal.place-placed-requires
+place-placed-requires c = subst (λ (b : BlockList). is_list c.args.on.now.joined.machine.now b.items ≡ true) (sym c.last.ensures) c.requires.list
 
 pub returns : goal.returns
 returns c =
