@@ -5,7 +5,9 @@ use Rattle.tta_build.specs.Trail.{last_of}
 use Rattle.tta_build.proofs.best_candidate.fit_of.Goals as goal
 
 pub place-placed-requires : goal.place-placed-requires
-place-placed-requires c = subst (λ (b : BlockList). is_list c.args.on.now.joined.machine.now b.items ≡ true) (sym c.last.ensures) c.requires.list
+place-placed-requires c = record {
+  list = subst (λ (b : BlockList). is_list c.args.on.now.joined.machine.now b.items ≡ true) (sym c.last.ensures) c.requires.list;
+}
 
 pub returns : goal.returns
 returns c =
