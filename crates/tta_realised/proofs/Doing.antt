@@ -3,13 +3,14 @@ use Rattle.std.proofs.Common.{◌≡◌, ℕ, zero, suc, ◌+◌, ◌*◌, ◌<�
 use Rattle.std.specs.Prelude.{if◌then◌else◌, nat_lt, nat_le}
 use Rattle.std.proofs.lemmas.Bool.{false≢true, ltb-true, ltb-false, leb-true, leb-false}
 use Rattle.std.proofs.lemmas.Option.{none-some}
-use Rattle.tta_realised.specs.Cited.{IsPrefixOf, over, Units, Machine, IsMachine, Program, step_count, Code, Whole, data_in, IsLegalWhole, State, Outcome, Running, Halted, Waiting, Fault, next, start, IsGiven, WaitAlike, AgreesAt, program_at, code_at, Circuit, bit, is_set, Store, HasHalted, IsOffered, Offer, IsReady, IsReset, Gives, Goes, Puts, PutWord, code_words, is_halted, is_fault, signals_at, cycles_at, put_at, AreClocks, IsStill, ShowsRun}
+use Rattle.tta_realised.specs.Cited.{IsPrefixOf, over, Units, Machine, IsMachine, Program, step_count, Code, Whole, data_in, IsLegalWhole, State, Outcome, Running, Halted, Waiting, Fault, next, start, IsGiven, WaitAlike, AgreesAt, program_at, code_at, Circuit, bit, is_set, Store, HasHalted, IsOffered, Offer, IsReady, IsReset, Gives, Goes, Puts, PutWord, code_words, is_halted, is_fault, held_at, signals_at, cycles_at, put_at, AreClocks, IsStill, ShowsRun}
 use Rattle.tta_list.proofs.Prefixes.{prefix_chain}
 use Rattle.tta_list.proofs.Sets.{over-length}
 use Rattle.tta_list.proofs.Iterated.{iterate-later}
 use Rattle.tta_program.specs.Sequential as program
 use Rattle.tta_hardware.specs.Signals.{Signal as Named}
-use Rattle.tta_hardware.proofs.Running.{waited, stands_still}
+use Rattle.tta_hardware.proofs.Circuits.{reset_is, goes_not}
+use Rattle.tta_hardware.proofs.Running.{stands_still}
 use Rattle.tta_hardware.proofs.Pins.{goes_by, goes_is}
 use Rattle.tta_hardware.proofs.Imaging.{shows_run}
 use Rattle.tta_hardware.proofs.Imaged.{image_kept}
@@ -63,10 +64,19 @@ module _ (u : Units) (m : Machine) (p : Program) (rate : ℕ) (whole : Whole) (m
       shows_run u m whole.code (over (data_in whole) memory) input powers inputs rules legal.code sized fine last clocks t less
 
   -- the clocks that begin anew make no cycle
+  idle : (t : ℕ) → t ≤ last → is_set (signals_at u c powers inputs t Goes) ≡ false
+  idle t le =
+      goes_not u m whole.code (over (data_in whole) memory) (held_at u c powers inputs t) (inputs t)
+      (ap is_set (reset_is u m whole.code (over (data_in whole) memory) (held_at u c powers inputs t) (inputs t)) ∙ clocks.reset t le)
+
+  none_by : (t : ℕ) → t ≤ last + 1 → made t ≡ 0
+  none_by zero le = refl
+  none_by (suc t) le =
+      let same : made t + 0 ≡ made t = omega arith in
+      ap (λ b. made t + bit b) (idle t (omega (arith, le))) ∙ same ∙ none_by t (omega (arith, le))
+
   none : made (suc last) ≡ 0
-  none =
-      (waited u m whole.code (over (data_in whole) memory) input powers inputs sized legal.code last clocks.reset (suc last)
-      (omega arith)).none
+  none = none_by (suc last) (omega arith)
 
   -- where so many cycles are made, the output of the program's steps begins what was put out
   at_once : (t n : ℕ) → last < t → length whole.code.words * (n + 1) ≡ made t → IsPrefixOf (program_at u p memory input n).output (put t)
