@@ -1,6 +1,7 @@
 -- What the compiler makes of a pair that is no direct one: what it is, and why there is no code.
 use Rattle.std.proofs.Common.{◌≡◌, ◌≤◌, Bool, true, false, List, None, Result, Ok, Err, refl, sym, ap, subst, ◌∙◌, length}
-use Rattle.std.specs.Prelude.{IfOk, IfErr, if◌then◌else◌, nat_lt}
+use Rattle.std.specs.Prelude.{IfOk, if◌then◌else◌, nat_lt}
+use Rattle.std.proofs.lemmas.Result.{IfOk-at_ok}
 use Rattle.tta_build.specs.Cited.{Units, Machine, IsMachine, StandsOver, Choice, IsChoice, failed_rule, Program, IsProgram, Homes, AreAllotted, Code, IsLegalCode, Placed, selected, AreBlocks, total_length, IsLinked, are_offered, is_direct}
 use Rattle.tta_build.specs.declared.error.BuildError.{BuildError}
 use Rattle.tta_build.specs.declared.register.Analysed.{Analysed}
@@ -132,25 +133,18 @@ module _ (u : Units) (m : Machine) (c : Choice) (p : Program) (machine : IsMachi
 -- ---- with what is chosen on the machine
 
 -- what is made for a pair is what the compiler makes of it
-pub with_choice : (u : Units) (m : Machine) (c : Choice) (p : Program) → is_direct m p ≡ false → IsChoice m c
-    → (q : Result Assembled BuildError) (r : Result Compiled BuildError) → IfOk q (λ x. IsAssembled u m c p x)
-    → IfOk q (λ x. r ≡ Ok (staged c x)) → IfErr q (λ e. r ≡ Err e) → IfOk r (λ s. IsCompiled u m p s)
-with_choice u m c p other picked (Ok x) r are ok err =
-    subst (λ (z : Result Compiled BuildError). IfOk z (λ s. IsCompiled u m p s)) (sym ok)
-    (ManyLists (record { other = other; choice = c; chosen = picked; made = x; parts = are; is = refl }))
-with_choice u m c p other picked (Err e) r are ok err = subst (λ (z : Result Compiled BuildError). IfOk z (λ s. IsCompiled u m p s)) (sym err) tt
-
--- its code is that of the pair
-pub with_code : (u : Units) (m : Machine) (c : Choice) (p : Program) (q : Result Assembled BuildError) (r : Result Compiled BuildError)
-    → IfOk q (λ x. IsCodeFor u m p x.code) → IfOk q (λ x. r ≡ Ok (staged c x)) → IfErr q (λ e. r ≡ Err e) → IfOk r (λ s. IsCodeFor u m p s.code)
-with_code u m c p (Ok x) r code ok err = subst (λ (z : Result Compiled BuildError). IfOk z (λ s. IsCodeFor u m p s.code)) (sym ok) code
-with_code u m c p (Err e) r code ok err = subst (λ (z : Result Compiled BuildError). IfOk z (λ s. IsCodeFor u m p s.code)) (sym err) tt
-
--- and why nothing is made is why there is none
-pub with_cause : (u : Units) (m : Machine) (c : Choice) (p : Program) (q : Result Assembled BuildError) (r : Result Compiled BuildError)
-    → IfErr q (λ e. HasCause u m p e) → IfOk q (λ x. r ≡ Ok (staged c x)) → IfErr q (λ e. r ≡ Err e) → IfErr r (λ e. HasCause u m p e)
-with_cause u m c p (Ok x) r cause ok err = subst (λ (z : Result Compiled BuildError). IfErr z (λ e. HasCause u m p e)) (sym ok) tt
-with_cause u m c p (Err e) r cause ok err = subst (λ (z : Result Compiled BuildError). IfErr z (λ f. HasCause u m p f)) (sym err) cause
+pub compiled_in_blocks : (u : Units) (m : Machine) (c : Choice) (p : Program) → is_direct m p ≡ false → IsChoice m c
+    → (kept : Choice) (made : Assembled) (r : Result Assembled BuildError) → kept ≡ c → r ≡ Ok made → IfOk r (λ x. IsAssembled u m c p x) → IsCompiled u m p (staged kept made)
+compiled_in_blocks u m c p other picked kept made r same is are =
+    subst (λ (k : Choice). IsCompiled u m p (staged k made)) (sym same)
+    (ManyLists (record {
+      other = other;
+      choice = c;
+      chosen = picked;
+      made = made;
+      parts = IfOk-at_ok (λ (x : Assembled). IsAssembled u m c p x) is are;
+      is = refl;
+    }))
 
 -- ---- what it has
 

@@ -1,47 +1,44 @@
 -- The causes of two errors contradict each other, and code contradicts all that are not about room or memory.
-use Rattle.std.proofs.Common.{◌≡◌, ◌<◌, ◌≤◌, ◌^◌, ℕ, List, true, refl, ap, arith, length}
+use Rattle.std.proofs.Common.{◌≡◌, ◌<◌, ◌≤◌, ◌^◌, ℕ, List, Bool, true, false, refl, ap, arith, length}
 use Rattle.std.specs.Prelude.{◌==◌, Option, Some}
 use Rattle.std.proofs.lemmas.Bool.{eq-eqb, and_from}
 use Rattle.tta_build.specs.Cited.{Units, Machine, Program, Placed, total_length}
 use Rattle.tta_build.specs.declared.error.BuildError.{BuildError}
 use Rattle.tta_build.specs.declared.error.BuildError.TheVariants.{NotCovered, NoUnit, FrameFull, CodeFull, NoMemory}
 use Rattle.tta_build.specs.Statement.{IsAccepted, Direct, Covered, BreaksRule, LacksUnit, LacksFrames, HasCause}
-use Rattle.tta_build.specs.Converted.{HasConvertedCause}
+use Rattle.tta_build.specs.Converted.{IsBuiltWith, HasCauseWith}
 use Rattle.tta_build.specs.Excludes.{go_together, is_beside_code, CausesExclude, CodeExcludes, FullExcludes}
-use Rattle.tta_build.specs.Excludes.{ConvertedCausesExclude, ConvertedCodeExcludes, ConvertedFullExcludes}
 
 -- ---- what the causes say alike, with the converted program and without
 
 -- of full code it matters that the pair is accepted, and how many addresses there are
-record IsFull (u : Units) (m : Machine) (p : Program) (have : ℕ) : Type 0 where
+pub record IsFull (u : Units) (m : Machine) (p : Program) (have : ℕ) : Type 0 where
   pub accepted : IsAccepted u m p
   pub addresses : have ≡ 2 ^ m.control.address
 
-abbrev Excludes : Units → Machine → Program → BuildError → Type 0
+abbrev pub Excludes : Units → Machine → Program → BuildError → Type 0
 Excludes u m p (NotCovered rule) = BreaksRule m p rule
 Excludes u m p (NoUnit line) = LacksUnit u m p line
 Excludes u m p (FrameFull need have) = LacksFrames u m p need have
 Excludes u m p (CodeFull words have) = IsFull u m p have
 Excludes u m p NoMemory = Unit {0}
 
-of_cause : (u : Units) (m : Machine) (p : Program) (e : BuildError) → HasCause u m p e → Excludes u m p e
-of_cause u m p (NotCovered rule) c = c
-of_cause u m p (NoUnit line) c = c
-of_cause u m p (FrameFull need have) c = c
-of_cause u m p (CodeFull words have) c = record { accepted = c.accepted; addresses = c.addresses }
-of_cause u m p NoMemory c = c
-
-of_converted : (u : Units) (m : Machine) (p : Program) (e : BuildError) → HasConvertedCause u m p e → Excludes u m p e
-of_converted u m p (NotCovered rule) c = c
-of_converted u m p (NoUnit line) c = c
-of_converted u m p (FrameFull need have) c = c
-of_converted u m p (CodeFull words have) c = record { accepted = c.accepted; addresses = c.addresses }
-of_converted u m p NoMemory c = c
+pub of_cause : (converts : Bool) (u : Units) (m : Machine) (p : Program) (e : BuildError) → HasCauseWith converts u m p e
+    → Excludes u m p e
+of_cause false u m p (NotCovered rule) c = c
+of_cause true u m p (NotCovered rule) c = c
+of_cause false u m p (NoUnit line) c = c
+of_cause true u m p (NoUnit line) c = c
+of_cause false u m p (FrameFull need have) c = c
+of_cause true u m p (FrameFull need have) c = c
+of_cause false u m p (CodeFull words have) c = record { accepted = c.accepted; addresses = c.addresses }
+of_cause true u m p (CodeFull words have) c = record { accepted = c.accepted; addresses = c.addresses }
+of_cause converts u m p NoMemory c = tt
 
 -- ---- code and an error
 
 -- a pair that is accepted has none of the causes but those of room and memory
-accepted_excludes : (u : Units) (m : Machine) (p : Program) (e : BuildError) → IsAccepted u m p → Excludes u m p e → is_beside_code e ≡ true
+pub accepted_excludes : (u : Units) (m : Machine) (p : Program) (e : BuildError) → IsAccepted u m p → Excludes u m p e → is_beside_code e ≡ true
 accepted_excludes u m p NoMemory accepted c = refl
 accepted_excludes u m p (CodeFull words have) accepted c = refl
 accepted_excludes u m p (NotCovered rule) (Direct is) c = let other = c.other in absurd cc
@@ -53,10 +50,10 @@ accepted_excludes u m p (FrameFull need have) (Covered other kept supplied fits)
     let words = c.words in let there = c.there in let more = c.more in absurd (omega arith)
 
 pub code_excludes : CodeExcludes
-code_excludes u m p whole e built c = accepted_excludes u m p e built.accepted (of_cause u m p e c)
-
-pub converted_code_excludes : ConvertedCodeExcludes
-converted_code_excludes u m p whole e built c = accepted_excludes u m p e built.accepted (of_converted u m p e c)
+code_excludes converts u m p whole e built c = accepted_excludes u m p e (accepted converts built) (of_cause converts u m p e c) where
+  accepted : (x : Bool) → IsBuiltWith x u m p whole → IsAccepted u m p
+  accepted false built = built.accepted
+  accepted true built = built.accepted
 
 -- ---- two errors
 
@@ -93,10 +90,7 @@ exclude u m p (CodeFull words have) (CodeFull words' have') c d = same_numbers c
 exclude u m p (CodeFull words have) NoMemory c d = refl
 
 pub causes_exclude : CausesExclude
-causes_exclude u m p e f c d = exclude u m p e f (of_cause u m p e c) (of_cause u m p f d)
-
-pub converted_causes_exclude : ConvertedCausesExclude
-converted_causes_exclude u m p e f c d = exclude u m p e f (of_converted u m p e c) (of_converted u m p f d)
+causes_exclude converts u m p e f c d = exclude u m p e f (of_cause converts u m p e c) (of_cause converts u m p f d)
 
 -- ---- code and full code
 
@@ -107,11 +101,9 @@ fit_or_not m ps qs n words have fits takes there more long same =
     let alike = ap total_length same in absurd (omega (arith, fits, takes, there, more, long, alike))
 
 pub full_excludes : FullExcludes
-full_excludes u m p whole words have built full same =
+full_excludes false u m p whole words have built full same =
     fit_or_not m built.compiled.placements full.compiled.placements (length whole.code.words) words have built.legal.code.room
     built.compiled.takes full.addresses full.more full.compiled.takes same
-
-pub converted_full_excludes : ConvertedFullExcludes
-converted_full_excludes u m p whole words have built full same =
+full_excludes true u m p whole words have built full same =
     fit_or_not m built.compiled.placements full.compiled.placements (length whole.code.words) words have built.legal.code.room
     built.compiled.takes full.addresses full.more full.compiled.takes same

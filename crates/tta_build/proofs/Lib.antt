@@ -14,9 +14,9 @@ pub mod WithHomes
 pub mod Compiling
 pub mod CoveredCode
 pub mod Directs
-pub mod Completes
 pub mod ConvertedNeeds
 pub mod ConvertedDirect
 pub mod ConvertedAgrees
 pub mod ConvertedBuilt
 pub mod Excluding
+pub mod Completes

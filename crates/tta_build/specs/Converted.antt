@@ -1,13 +1,11 @@
--- What `build_converted` answers: code of the converted program, which does what the program does.
-use Rattle.std.specs.Prelude.{◌≡◌, ℕ, ◌<◌, ◌≤◌, ◌^◌, ◌*◌, List, length}
-use Rattle.tta_build.specs.Cited.{Units, Machine, Program, step_count, Whole, IsLegalWhole, Agrees, AgreesAt, Placed, total_length, room_on, IsPacked, IsLength, Converted}
+-- What `build_with` answers: code of the program as it stands, or of the converted program, which does what the program does.
+use Rattle.std.specs.Prelude.{◌≡◌, ℕ, ◌<◌, ◌≤◌, ◌^◌, ◌*◌, Bool, true, false, length}
+use Rattle.tta_build.specs.Cited.{Units, Machine, Program, step_count, Whole, IsLegalWhole, Agrees, AgreesAt, room_on, IsPacked, IsLength, Converted}
 use Rattle.tta_build.specs.declared.error.BuildError.{BuildError}
-use Rattle.tta_build.specs.declared.error.BuildError.TheVariants.{NotCovered, NoUnit, FrameFull, CodeFull, NoMemory}
-use Rattle.tta_build.specs.Plain.{IsPlainCode}
+use Rattle.tta_build.specs.declared.error.BuildError.TheVariants.{CodeFull}
 use Rattle.tta_build.specs.Compiled.{CompilesTo}
 use Rattle.tta_build.specs.Value.{IsMadeOf}
-use Rattle.tta_build.specs.Statement.{IsAccepted, BreaksRule, LacksUnit, LacksFrames}
-use Rattle.tta_build.specs.Completes.{IsRoomy}
+use Rattle.tta_build.specs.Statement.{IsAccepted, IsBuilt, LacksRoom, HasCause}
 
 -- Code with data that does what the program does, where a cycle stands for at most twice as many steps as the program has.
 -- The machine can carry it out, its data lie in the data space, it is packed for the converted program, it has no more
@@ -36,30 +34,27 @@ pub record LacksConvertedRoom (u : Units) (m : Machine) (p : Program) (words hav
   pub length : IsLength u m converted words
   pub compiled : CompilesTo u m converted words
 
--- why there is no code: what `build` says of the program, but for the length of the code
-abbrev pub HasConvertedCause : Units → Machine → Program → BuildError → Type 0
-HasConvertedCause u m p (NotCovered rule) = BreaksRule m p rule
-HasConvertedCause u m p (NoUnit line) = LacksUnit u m p line
-HasConvertedCause u m p (FrameFull need have) = LacksFrames u m p need have
-HasConvertedCause u m p (CodeFull words have) = LacksConvertedRoom u m p words have
-HasConvertedCause u m p NoMemory = Unit {0}
+-- ---- with a flag: the program as it stands, or converted
 
--- ---- laws
+-- what is built of the program as it stands, or of the converted one
+abbrev pub IsBuiltWith : (converts : Bool) → Units → Machine → Program → Whole → Type 0
+IsBuiltWith false u m p whole = IsBuilt u m p whole
+IsBuiltWith true u m p whole = IsBuiltConverted u m p whole
+
+-- that its code is too long
+abbrev pub LacksRoomWith : (converts : Bool) → Units → Machine → Program → (words have : ℕ) → Type 0
+LacksRoomWith false u m p = LacksRoom u m p
+LacksRoomWith true u m p = LacksConvertedRoom u m p
+
+-- why there is no code: for the converted program what `build` says of the program, but for the length of the code
+abbrev pub HasCauseWith : (converts : Bool) → Units → Machine → Program → BuildError → Type 0
+HasCauseWith false u m p e = HasCause u m p e
+HasCauseWith true u m p (CodeFull words have) = LacksConvertedRoom u m p words have
+HasCauseWith true u m p e = HasCause u m p e
+
+-- ---- a law
 
 -- code that agrees with the converted program agrees with the program, which makes at most twice as many steps
 abbrev pub ConvertedAgrees : Type 0
 ConvertedAgrees = (u : Units) (m : Machine) (p q : Program) (whole : Whole) → Converted p q → Agrees u m q whole
     → AgreesAt u m p (2 * step_count p) whole
-
--- a pair that is accepted and has room has code so too, unless memory runs out: no other error has its cause
-abbrev pub ConvertedCompletes : Type 0
-ConvertedCompletes = (u : Units) (m : Machine) (p : Program) (e : BuildError) → IsRoomy u m p → HasConvertedCause u m p e → e ≡ NoMemory
-
--- a pair is accepted, and the machine has as many addresses as the plain code of the converted program takes words
-pub record ConvertedFits (u : Units) (m : Machine) (p : Program) : Type 0 where
-  pub accepted : IsAccepted u m p
-  pub fits : (q : Program) (plain : List Placed) → Converted p q → IsPlainCode u m q plain → total_length plain ≤ 2 ^ m.control.address
-
--- such a pair has code of the converted program, unless memory runs out
-abbrev pub ConvertedCompletesPlainly : Type 0
-ConvertedCompletesPlainly = (u : Units) (m : Machine) (p : Program) (e : BuildError) → ConvertedFits u m p → HasConvertedCause u m p e → e ≡ NoMemory

@@ -64,8 +64,6 @@ fn direct_planned(
 
 /// What the compiler makes of a direct pair.
 pub fn compile_direct(alloc: Global, on: &Joined<'_>, p: &Program) -> Result<Compiled, BuildError>
-    requires machine { IsMachine on.now.machine.now }
-    requires program { IsProgram p.now }
     requires direct { is_direct on.now.machine.now p.now ≡ true }
     ensures value { let M = on.now.machine.now in
         IfOk result (λ r. IsDirectlyCompiled M p.now r) }
@@ -74,6 +72,8 @@ pub fn compile_direct(alloc: Global, on: &Joined<'_>, p: &Program) -> Result<Com
     ensures cause { let M = on.now.machine.now in
         IfErr result (λ e. (u : Units) → HasCause u M p.now e) }
 {
+    on.machine.rules();
+    p.rules();
     let lowered = direct_lowered(alloc, on.machine, p)?;
     let planned = direct_planned(alloc, on, p, &lowered)?;
     let code = link_placed(alloc, planned.placed.as_slice(), on.machine)?;

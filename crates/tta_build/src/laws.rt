@@ -1,12 +1,10 @@
-//! Laws of building code. A law is a function that does nothing, and whose contract is the law.
+//! Laws of building code, of a program as it stands or converted. A law is a function that does
+//! nothing, and whose contract is the law.
 
 ghost use Rattle.tta_build.specs.Compiled.{CompiledIsShort};
 ghost use Rattle.tta_build.specs.Completes.{BuildCompletes, BuildCompletesPlainly};
 ghost use Rattle.tta_build.specs.Converted.{ConvertedAgrees};
-ghost use Rattle.tta_build.specs.Converted.{ConvertedCompletes, ConvertedCompletesPlainly};
 ghost use Rattle.tta_build.specs.Excludes.{CausesExclude, CodeExcludes, FullExcludes};
-ghost use Rattle.tta_build.specs.Excludes.{ConvertedCausesExclude, ConvertedCodeExcludes};
-ghost use Rattle.tta_build.specs.Excludes.{ConvertedFullExcludes};
 
 /// A pair that is accepted and has room has code, unless memory runs out.
 pub fn build_completes()
@@ -43,31 +41,4 @@ pub fn full_excludes()
 /// many steps.
 pub fn converted_agrees()
     ensures { ConvertedAgrees }
-{}
-
-/// A pair that is accepted and has room has code of the converted program too, unless memory runs
-/// out.
-pub fn build_converted_completes()
-    ensures { ConvertedCompletes }
-{}
-
-/// So has one that is accepted and where the plain code of the converted program fits.
-pub fn build_converted_completes_plainly()
-    ensures { ConvertedCompletesPlainly }
-{}
-
-/// The errors of building code of the converted program exclude each other as those of building
-/// code.
-pub fn converted_causes_exclude()
-    ensures { ConvertedCausesExclude }
-{}
-
-/// So do its code and the errors but those of room and of memory.
-pub fn converted_code_excludes()
-    ensures { ConvertedCodeExcludes }
-{}
-
-/// And so do its code and the error that code has no room, of the same compiled lists.
-pub fn converted_full_excludes()
-    ensures { ConvertedFullExcludes }
 {}

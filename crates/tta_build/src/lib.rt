@@ -28,16 +28,14 @@ mod value;
 mod ways;
 
 pub use best_candidate::Planned;
-pub use converted::build_converted;
+pub use converted::build_with;
 pub use data_order::data_in_order;
 pub use direct_pair::is_direct;
 pub use error::BuildError;
 pub use keeping::beside;
 pub use laws::{
-    build_completes, build_completes_plainly, build_converted_completes,
-    build_converted_completes_plainly, causes_exclude, code_excludes, compiled_is_short,
-    converted_agrees, converted_causes_exclude, converted_code_excludes, converted_full_excludes,
-    full_excludes,
+    build_completes, build_completes_plainly, causes_exclude, code_excludes, compiled_is_short,
+    converted_agrees, full_excludes,
 };
 pub use linking::link_placed;
 pub use needs::unoffered;

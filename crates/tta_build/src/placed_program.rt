@@ -4,10 +4,8 @@ ghost use Rattle.std.specs.Prelude.{◌≡◌, ◌≤◌, ◌↔◌, if◌then�
 ghost use Rattle.std.specs.Prelude.{IsTrue, IfOk, IfErr, IfSome};
 ghost use Rattle.std.specs.List.{sum_by};
 ghost use Rattle.tta_ops.specs.Set.{stated};
-ghost use Rattle.tta_arch.specs.Rules.{IsMachine};
 ghost use Rattle.tta_arch.specs.Over.{StandsOver};
 ghost use Rattle.tta_link.specs.Blocks.{total_length};
-ghost use Rattle.tta_program.specs.Rules.{IsProgram};
 ghost use Rattle.tta_program.specs.Program.{step_count};
 ghost use Rattle.tta_lower.specs.Statement.{IsCause};
 ghost use Rattle.tta_compose.specs.Needs.{are_offered};
@@ -42,10 +40,10 @@ fn homes_for(
     known: &Analysed,
     sharing: Sharing,
 ) -> Result<Homes, AllocError>
-    requires machine { IsMachine on.now.joined.machine.now }
     requires known { IsAnalysed p.now known.now }
     ensures { IfOk result (λ h. AreHomesBy sharing p.now on.now.choice.now h) }
 {
+    on.joined.machine.rules();
     let homes = on.choice.homes.len() as u32;
     homes_by(alloc, p, &known.flow, &known.live, homes, sharing)
 }
@@ -59,7 +57,6 @@ fn other_homes(
     known: &Analysed,
     turns: &Homes,
 ) -> Result<Option<Homes>, AllocError>
-    requires machine { IsMachine on.now.joined.machine.now }
     requires known { IsAnalysed p.now known.now }
     ensures { IfOk result
         (λ o. IfSome o (λ h. AreHomesBy Sharing.Least p.now on.now.choice.now h)) }
@@ -89,41 +86,6 @@ pub struct Homed {
 }
 
 /// The lists of a program whose needs usable units offer, with these homes, and their placements.
-fn listed_with(
-    alloc: Global,
-    on: &Covered<'_>,
-    p: &Program,
-    units: &UnitSet,
-    known: &Analysed,
-    kept: &Homes,
-) -> Result<Listed, LowerError>
-    requires machine { IsMachine on.now.joined.machine.now }
-    requires program { IsProgram p.now }
-    requires over { StandsOver (stated unit_meaning units.now) on.now.joined.machine.now }
-    requires offered { let U = stated unit_meaning units.now in
-        are_offered U on.now.joined.machine.now on.now.choice.now p.now ≡ true }
-    requires known { IsAnalysed p.now known.now }
-    requires kept { AreAllotted p.now (length on.now.choice.now.homes) kept.now }
-    ensures listed { let U = stated unit_meaning units.now in let C = on.now.choice.now in IfOk result
-        (λ r. IsListedWith kept.now U on.now.joined.machine.now C p.now known.now r) }
-    ensures cause { IfErr result (λ e. IsCause p.now on.now.joined.machine.now.frame_words e) }
-{
-    let m = on.joined.machine;
-    let code = lower(alloc, p, &known.flow, &known.live, kept, m.frame_words)?;
-    let selected = select(
-        alloc,
-        &code,
-        on.joined.machine,
-        on.joined.net,
-        on.choice,
-        units,
-    )?;
-    let planned = plan_lists(alloc, on, selected);
-    let (code, planned) = beside(code, planned)?;
-    Ok(Listed { code, planned })
-}
-
-/// The same with homes that are kept beside.
 fn homed_with(
     alloc: Global,
     on: &Covered<'_>,
@@ -132,8 +94,6 @@ fn homed_with(
     known: &Analysed,
     homes: Homes,
 ) -> Result<Homed, LowerError>
-    requires machine { IsMachine on.now.joined.machine.now }
-    requires program { IsProgram p.now }
     requires over { StandsOver (stated unit_meaning units.now) on.now.joined.machine.now }
     requires offered { let U = stated unit_meaning units.now in
         are_offered U on.now.joined.machine.now on.now.choice.now p.now ≡ true }
@@ -144,8 +104,14 @@ fn homed_with(
         (λ r. IsListedWith homes U on.now.joined.machine.now C p.now known.now r.listed) }
     ensures cause { IfErr result (λ e. IsCause p.now on.now.joined.machine.now.frame_words e) }
 {
-    let listed = listed_with(alloc, on, p, units, known, &homes);
-    let (homes, listed) = beside(homes, listed)?;
+    let m = on.joined.machine;
+    m.rules();
+    p.rules();
+    let code = lower(alloc, p, &known.flow, &known.live, &homes, m.frame_words)?;
+    let selected = select(alloc, &code, m, on.joined.net, on.choice, units)?;
+    let planned = plan_lists(alloc, on, selected);
+    let (code, planned) = beside(code, planned)?;
+    let listed = Listed { code, planned };
     Ok(Homed { homes, listed })
 }
 
@@ -206,8 +172,6 @@ pub fn homed_best(
     units: &UnitSet,
     known: &Analysed,
 ) -> Result<Homed, LowerError>
-    requires machine { IsMachine on.now.joined.machine.now }
-    requires program { IsProgram p.now }
     requires over { StandsOver (stated unit_meaning units.now) on.now.joined.machine.now }
     requires offered { let U = stated unit_meaning units.now in
         are_offered U on.now.joined.machine.now on.now.choice.now p.now ≡ true }
@@ -216,6 +180,8 @@ pub fn homed_best(
         (λ r. IsHomedBest U on.now.joined.machine.now on.now.choice.now p.now known.now r) }
     ensures cause { IfErr result (λ e. IsCause p.now on.now.joined.machine.now.frame_words e) }
 {
+    on.joined.machine.rules();
+    p.rules();
     let turns = homes_for(alloc, on, p, known, Sharing::InTurn)?;
     let first = homed_with(alloc, on, p, units, known, turns)?;
     let least = other_homes(alloc, on, p, known, &first.homes);

@@ -5,7 +5,7 @@ ghost use Rattle.tta_ops.specs.Set.{stated};
 ghost use Rattle.tta_arch.specs.Over as arch;
 ghost use Rattle.tta_program.specs.Over as program;
 ghost use Rattle.tta_program.specs.Program.{first_outside};
-ghost use Rattle.tta_build.specs.Value.{IsCompiled, IsMadeOf};
+ghost use Rattle.tta_build.specs.Value.{IsCompiled};
 ghost use Rattle.tta_build.specs.Parts.{IsCodeFor};
 ghost use Rattle.tta_build.specs.Statement.{IsBuilt, HasCause};
 
@@ -17,7 +17,7 @@ use crate::error::BuildError;
 use crate::value::Compiled;
 use std::alloc::Global;
 use tta_arch::Machine;
-use tta_code::{Code, Whole};
+use tta_code::Whole;
 use tta_connect::{Joined, Net};
 use tta_ops::UnitSet;
 use tta_program::Program;
@@ -26,29 +26,6 @@ use tta_program::Program;
 #[derive(Drop)]
 pub struct Built {
     pub whole: Whole,
-}
-
-/// What the compiler makes of a program for a machine with its net.
-fn compile_on(
-    alloc: Global,
-    on: &Joined<'_>,
-    p: &Program,
-    units: &UnitSet,
-) -> Result<Compiled, BuildError>
-    requires over { arch.StandsOver (stated unit_meaning units.now) on.now.machine.now }
-    ensures value { let U = stated unit_meaning units.now in
-        IfOk result (λ r. IsCompiled U on.now.machine.now p.now r) }
-    ensures code { let U = stated unit_meaning units.now in
-        IfOk result (λ r. IsCodeFor U on.now.machine.now p.now r.code) }
-    ensures cause { let U = stated unit_meaning units.now in
-        IfErr result (λ e. HasCause U on.now.machine.now p.now e) }
-{
-    on.machine.rules();
-    p.rules();
-    if is_direct(on, p) {
-        return compile_direct(alloc, on, p);
-    }
-    compile_covered(alloc, on, p, units)
 }
 
 /// What the compiler makes of a program, from its basic blocks to its code. `build` writes this code,
@@ -72,21 +49,10 @@ pub fn compile(
         machine: m,
         net: &net,
     };
-    compile_on(alloc, &on, p, units)
-}
-
-/// The code of what the compiler makes of a program.
-fn code_of(alloc: Global, m: &Machine, p: &Program, units: &UnitSet) -> Result<Code, BuildError>
-    requires { arch.StandsOver (stated unit_meaning units.now) m.now }
-    ensures made { let U = stated unit_meaning units.now in
-        IfOk result (λ code. IsMadeOf U m.now p.now code) }
-    ensures code { let U = stated unit_meaning units.now in
-        IfOk result (λ code. IsCodeFor U m.now p.now code) }
-    ensures cause { let U = stated unit_meaning units.now in
-        IfErr result (λ e. HasCause U m.now p.now e) }
-{
-    let Compiled { code, .. } = compile(alloc, m, p, units)?;
-    Ok(code)
+    if is_direct(&on, p) {
+        return compile_direct(alloc, &on, p);
+    }
+    compile_covered(alloc, &on, p, units)
 }
 
 /// Code for a machine that does what a program does: from every memory, for every input and for
@@ -107,7 +73,7 @@ pub fn build(alloc: Global, m: &Machine, p: &Program, units: &UnitSet) -> Result
     ensures built { IfOk result (λ b. IsBuilt (stated unit_meaning units.now) m.now p.now b.whole) }
     ensures cause { IfErr result (λ e. HasCause (stated unit_meaning units.now) m.now p.now e) }
 {
-    let code = code_of(alloc, m, p, units)?;
+    let Compiled { code, .. } = compile(alloc, m, p, units)?;
     let init = data_in_order(alloc, p)?;
     Ok(Built {
         whole: Whole { code, init },

@@ -1,54 +1,35 @@
 -- A pair that is accepted has no cause of `build` but that of memory, and that its code is too long.
-use Rattle.std.proofs.Common.{◌≡◌, ◌⊎◌, ℕ, refl, inl, inr, arith}
-use Rattle.tta_exit_laws.specs.Cited.{Units, Machine, IsAccepted, Direct, Covered, BreaksRule, LacksUnit, LacksFrames, LacksRoom, LacksConvertedRoom, IsRoomy, Status, IsCauseOf, IsConvertedCauseOf}
+use Rattle.std.proofs.Common.{◌≡◌, ◌⊎◌, Bool, true, ℕ, refl, inl, inr}
+use Rattle.tta_exit_laws.specs.Cited.{Units, Machine, HasCauseWith, LacksRoomWith, IsAccepted, IsRoomy, Status, IsCauseOf}
 use Rattle.tta_program.specs.Program.{Program}
+use Rattle.tta_build.specs.declared.error.BuildError.{BuildError}
+use Rattle.tta_build.specs.declared.error.BuildError.TheVariants as cause
+use Rattle.tta_build.specs.Excludes.{is_beside_code}
+use Rattle.tta_build.proofs.Excluding.{of_cause, accepted_excludes}
+use Rattle.tta_build.proofs.Completes.{full_lacks, completes}
 use Rattle.tta_load.specs.declared.status.Status.TheVariants as status
 use Rattle.tta_exit_laws.specs.WriteCompletes.{IsFull}
 
-module _ (u : Units) (m : Machine) (p : Program) where
-  breaks_none : (rule : ℕ) → IsAccepted u m p → BreaksRule m p rule → ⊥
-  breaks_none rule (Direct is) c = let other = c.other in cc
-  breaks_none rule (Covered other kept supplied fits) c = let first = c.first in cc
-
-  lacks_none : (line : ℕ) → IsAccepted u m p → LacksUnit u m p line → ⊥
-  lacks_none line (Direct is) c = let other = c.other in cc
-  lacks_none line (Covered other kept supplied fits) c = let first = c.first in cc
-
-  fits_frames : (need have : ℕ) → IsAccepted u m p → LacksFrames u m p need have → ⊥
-  fits_frames need have (Direct is) c = let other = c.other in cc
-  fits_frames need have (Covered other kept supplied fits) c =
-      let words = c.words in let there = c.there in let more = c.more in absurd (omega arith)
+module _ (converts : Bool) (u : Units) (m : Machine) (p : Program) where
+  beside : (e : BuildError) → IsAccepted u m p → HasCauseWith converts u m p e → is_beside_code e ≡ true
+  beside e accepted c = accepted_excludes u m p e accepted (of_cause converts u m p e c)
 
   -- a cause is that of memory, or the code is too long
-  pub cause_only : (s : Status) → IsAccepted u m p → IsCauseOf u m p s → (s ≡ status.NoMemory) ⊎ IsFull (LacksRoom u m p) s
-  cause_only (status.NotCovered rule) accepted c = absurd (breaks_none rule accepted c)
-  cause_only (status.NoUnit line) accepted c = absurd (lacks_none line accepted c)
-  cause_only (status.FrameFull need have) accepted c = absurd (fits_frames need have accepted c)
-  cause_only (status.CodeFull words have) accepted c = inr (record { words = words; have = have; told = refl; lacks = c })
+  pub cause_only : (s : Status) → IsAccepted u m p → IsCauseOf converts u m p s
+      → (s ≡ status.NoMemory) ⊎ IsFull (LacksRoomWith converts u m p) s
+  cause_only (status.NotCovered rule) accepted c = let no = beside (cause.NotCovered rule) accepted c in absurd cc
+  cause_only (status.NoUnit line) accepted c = let no = beside (cause.NoUnit line) accepted c in absurd cc
+  cause_only (status.FrameFull need have) accepted c = let no = beside (cause.FrameFull need have) accepted c in absurd cc
+  cause_only (status.CodeFull words have) accepted c =
+      inr (record { words = words; have = have; told = refl; lacks = full_lacks converts u m p words have c })
   cause_only status.NoMemory accepted c = inl refl
   cause_only s accepted c = absurd c
 
-  -- and so is a cause of the converted program
-  pub converted_cause_only : (s : Status) → IsAccepted u m p → IsConvertedCauseOf u m p s → (s ≡ status.NoMemory) ⊎ IsFull (LacksConvertedRoom u m p) s
-  converted_cause_only (status.NotCovered rule) accepted c = absurd (breaks_none rule accepted c)
-  converted_cause_only (status.NoUnit line) accepted c = absurd (lacks_none line accepted c)
-  converted_cause_only (status.FrameFull need have) accepted c = absurd (fits_frames need have accepted c)
-  converted_cause_only (status.CodeFull words have) accepted c = inr (record { words = words; have = have; told = refl; lacks = c })
-  converted_cause_only status.NoMemory accepted c = inl refl
-  converted_cause_only s accepted c = absurd c
-
   -- where it has room too, its code is not too long
-  pub roomy_only : (s : Status) → IsRoomy u m p → IsCauseOf u m p s → s ≡ status.NoMemory
-  roomy_only s roomy c = elim (cause_only s roomy.accepted c) [
-    | inl lacks ↦ lacks
-    | inr full ↦
-        let more = full.lacks.more in let most = full.lacks.room in let there = full.lacks.addresses in let room = roomy.room in absurd (omega arith)
-  ]
-
-  -- nor is that of the converted program
-  pub converted_roomy_only : (s : Status) → IsRoomy u m p → IsConvertedCauseOf u m p s → s ≡ status.NoMemory
-  converted_roomy_only s roomy c = elim (converted_cause_only s roomy.accepted c) [
-    | inl lacks ↦ lacks
-    | inr full ↦
-        let more = full.lacks.more in let most = full.lacks.room in let there = full.lacks.addresses in let room = roomy.room in absurd (omega arith)
-  ]
+  pub roomy_only : (s : Status) → IsRoomy u m p → IsCauseOf converts u m p s → s ≡ status.NoMemory
+  roomy_only (status.NotCovered rule) roomy c = let no = completes converts u m p (cause.NotCovered rule) roomy c in absurd cc
+  roomy_only (status.NoUnit line) roomy c = let no = completes converts u m p (cause.NoUnit line) roomy c in absurd cc
+  roomy_only (status.FrameFull need have) roomy c = let no = completes converts u m p (cause.FrameFull need have) roomy c in absurd cc
+  roomy_only (status.CodeFull words have) roomy c = let no = completes converts u m p (cause.CodeFull words have) roomy c in absurd cc
+  roomy_only status.NoMemory roomy c = refl
+  roomy_only s roomy c = absurd c

@@ -1,5 +1,5 @@
 -- How `sample` ends where no call fails: it puts its summary, is out of memory, or there is a cause for which no code is built.
-use Rattle.std.proofs.Common.{◌≡◌, ◌⊎◌, ℕ, List, Option, refl, subst, inl, inr}
+use Rattle.std.proofs.Common.{◌≡◌, ◌⊎◌, ℕ, false, List, Option, refl, subst, inl, inr}
 use Rattle.tta_exit_laws.specs.Cited.{Rose, Output, Units, Machine, sample_text, Whole, MachineFile, Status, IsDescribed, RefusesMachine, IsProgramIn, step_bound, program_after, CompareEnds, CompileEnds, SampleForEnds, Store, World, IsCauseOf, Samples}
 use Rattle.tta_program.specs.Program.{Program}
 use Rattle.tta_program.specs.Sequential as sequential
@@ -14,7 +14,7 @@ use Rattle.tta_exit_laws.proofs.AcceptedPairs.{cause_only, roomy_only}
 
 -- the summary is put, there is no memory, or there is a cause
 abbrev EndsSo : Units → Machine → Program → Status → Type 0
-EndsSo u m p s = (s ≡ status.Ok) ⊎ (s ≡ status.NoMemory) ⊎ IsCauseOf u m p s
+EndsSo u m p s = (s ≡ status.Ok) ⊎ (s ≡ status.NoMemory) ⊎ IsCauseOf false u m p s
 
 -- a program that has halted is compared with its code
 compare_only : (u : Units) (m : Machine) (p : Program) (whole : Whole) (bound : ℕ) (old new : Output) (s : Status) → (Rose old.faults new.faults → ⊥)
@@ -60,7 +60,7 @@ sample_completes_holds u store faults latest seed lines M after old new s has ca
     elim (sample_only u store faults latest seed lines M after old new s has.sample calm ends) [
       | inl done ↦ inl done
       | inr (inl lacks) ↦ inr lacks
-      | inr (inr cause) ↦ inr (roomy_only u has.sample.machine.value.machine has.sample.program s has.roomy cause)
+      | inr (inr cause) ↦ inr (roomy_only false u has.sample.machine.value.machine has.sample.program s has.roomy cause)
     ]
 
 -- where it is accepted, code may be too long beside that
@@ -69,5 +69,5 @@ sample_completes_without_room_holds u store faults latest seed lines M after old
     elim (sample_only u store faults latest seed lines M after old new s has.sample calm ends) [
       | inl done ↦ inl done
       | inr (inl lacks) ↦ inr (inl lacks)
-      | inr (inr cause) ↦ inr (cause_only u has.sample.machine.value.machine has.sample.program s has.accepted cause)
+      | inr (inr cause) ↦ inr (cause_only false u has.sample.machine.value.machine has.sample.program s has.accepted cause)
     ]

@@ -1,5 +1,5 @@
 -- Where files hold what a command for designers shows, and no call fails, it is shown, unless memory lacks or a program's code is too long.
-use Rattle.std.proofs.Common.{◌≡◌, ◌⊎◌, ℕ, List, Option, Some, None, refl, ap, subst, inl, inr}
+use Rattle.std.proofs.Common.{◌≡◌, ◌⊎◌, ℕ, false, List, Option, Some, None, refl, ap, subst, inl, inr}
 use Rattle.std.specs.Prelude.{Err}
 use Rattle.tta_ports.specs.declared.fault.Fault.{Fault}
 use Rattle.tta_exit_laws.specs.Cited.{Store, Rose, World, Output, Come, Units, Machine, Whole, Debugged, LinesFailed, TooLong, SinkFailed, MachineFile, Status, IsDescribed, RefusesMachine, IsImageFor, RefusesImage, IsProgramFor, RefusesProgramFor, IsInput, RefusesStream, IsStream, no_memory, HasPair, IsCauseOf, Subject, IsSubject, RefusesSubject, machine_view, IsTold, IsPictureText, Lacks, Tells, StagesView, IsStagesOf, ShowsStages, GivenFails, FilesFail}
@@ -60,7 +60,7 @@ one_subject u text file bytes (Program a) (Code b) described is also = let one =
 one_subject u text file bytes (Program a) (Program b) described is also = ap Program (one_program u bytes a b is.1.read also.1.read)
 
 -- the causes of `stages` are those of `build`
-cause_of_build : (u : Units) (m : Machine) (p : Program') (s : Status) → IsStageCause u m p s → IsCauseOf u m p s
+cause_of_build : (u : Units) (m : Machine) (p : Program') (s : Status) → IsStageCause u m p s → IsCauseOf false u m p s
 cause_of_build u m p (status.NotCovered rule) c = c
 cause_of_build u m p (status.NoUnit line) c = c
 cause_of_build u m p (status.FrameFull need have) c = c
@@ -72,7 +72,7 @@ cause_of_build u m p s c = absurd c
 pub lacks_only : (u : Units) (file : MachineFile) (subject : Subject) (s : Status) → IsRunnable u file.machine subject → Lacks u file subject s
     → (s ≡ status.NoMemory) ⊎ IsTooLong u file.machine subject s
 lacks_only u file (Code whole) s runnable lacks = inl lacks
-lacks_only u file (Program p) s runnable lacks = cause_only u file.machine p s runnable (cause_of_build u file.machine p s lacks)
+lacks_only u file (Program p) s runnable lacks = cause_only false u file.machine p s runnable (cause_of_build u file.machine p s lacks)
 
 pub picture_completes_holds : PictureCompletes
 picture_completes_holds u store faults latest M F after old new s pair runnable calm ends =
@@ -108,7 +108,7 @@ run_view_completes_holds u store faults latest view M F IN STREAM bound after ol
 stages_only : (u : Units) (store : Store) (faults : ℕ) (latest : Option Fault) (view : StagesView) (M P : List ℕ) (after : World) (old new : Output) (s : Status)
     (pair : HasPair u (IsProgramFor u) (Some store) M P) → IsUndisturbed (showing store faults latest) after old new
     → ShowsStages u view M P (showing store faults latest) after old new s
-    → (s ≡ status.Ok) ⊎ (s ≡ status.NoMemory) ⊎ IsCauseOf u pair.machine.value.machine pair.second.value s
+    → (s ≡ status.Ok) ⊎ (s ≡ status.NoMemory) ⊎ IsCauseOf false u pair.machine.value.machine pair.second.value s
 stages_only u store faults latest view M P after old new s pair calm ends =
     let file = pair.machine.value in
     let program = pair.second.value in
@@ -124,7 +124,7 @@ stages_completes_without_room_holds u store faults latest view M P after old new
     elim (stages_only u store faults latest view M P after old new s has.pair calm ends) [
       | inl done ↦ inl done
       | inr (inl lacks) ↦ inr (inl lacks)
-      | inr (inr lacks) ↦ inr (cause_only u has.pair.machine.value.machine has.pair.second.value s has.accepted lacks)
+      | inr (inr lacks) ↦ inr (cause_only false u has.pair.machine.value.machine has.pair.second.value s has.accepted lacks)
     ]
 
 pub stages_completes_holds : StagesCompletes
@@ -132,7 +132,7 @@ stages_completes_holds u store faults latest view M P after old new s has calm e
     elim (stages_only u store faults latest view M P after old new s has.pair calm ends) [
       | inl done ↦ inl done
       | inr (inl lacks) ↦ inr lacks
-      | inr (inr lacks) ↦ inr (roomy_only u has.pair.machine.value.machine has.pair.second.value s has.roomy lacks)
+      | inr (inr lacks) ↦ inr (roomy_only false u has.pair.machine.value.machine has.pair.second.value s has.roomy lacks)
     ]
 
 -- ---- a session

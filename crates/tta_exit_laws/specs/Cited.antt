@@ -3,8 +3,8 @@ pub use Rattle.tta_agree.specs.Agrees.{code_at, program_at}
 pub use Rattle.tta_arch.specs.Machine.{Machine}
 unfoldable pub use Rattle.tta_asm.specs.Assembly.{assembled}
 pub use Rattle.tta_build.specs.Completes.{IsRoomy}
-pub use Rattle.tta_build.specs.Converted.{HasConvertedCause, LacksConvertedRoom}
-pub use Rattle.tta_build.specs.Statement.{BreaksRule, Covered, Direct, HasCause, IsAccepted, IsBuilt, LacksFrames, LacksRoom, LacksUnit}
+pub use Rattle.tta_build.specs.Converted.{HasCauseWith, LacksRoomWith}
+pub use Rattle.tta_build.specs.Statement.{HasCause, IsAccepted, IsBuilt, LacksRoom}
 pub use Rattle.tta_check.specs.Verdict.{IsUnsafe}
 pub use Rattle.tta_code.specs.Whole.{Whole, data_in}
 pub use Rattle.tta_cores.specs.Cluster.{cycles, first_states}
@@ -74,7 +74,6 @@ unfoldable pub use Rattle.tta_tac.specs.Text.{linked_text}
 pub use Rattle.tta_tac.specs.declared.refusal.Refusal.{Refusal}
 pub use Rattle.tta_tool.specs.Asm.{Assembles, IsAssembled}
 pub use Rattle.tta_tool.specs.Build.{Builds, IsCauseOf, IsImageOf}
-pub use Rattle.tta_tool.specs.BuildConverted.{BuildsConverted, IsConvertedCauseOf, IsConvertedImageOf}
 pub use Rattle.tta_tool.specs.Check.{CannotFault, ChecksCode, IsCalledSafe, IsFound}
 pub use Rattle.tta_tool.specs.Debug.{AskedRuns, Debugs, HasAsked, HasBytes, said}
 pub use Rattle.tta_tool.specs.Dis.{Shows}

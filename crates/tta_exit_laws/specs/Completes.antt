@@ -1,5 +1,5 @@
--- Which pairs `build` takes without fail.
-use Rattle.std.specs.Prelude.{◌≡◌, ◌⊎◌, ℕ, List, Option, Some}
+-- Which pairs `build` takes without fail, with the word `convert` and without it.
+use Rattle.std.specs.Prelude.{◌≡◌, ◌⊎◌, ℕ, Bool, List, Option, Some}
 use Rattle.tta_ports.specs.declared.fault.Fault.{Fault}
 use Rattle.tta_exit_laws.specs.Cited.{Store, Rose, World, Units, IsRoomy, Status, IsProgramFor, HasPair, Builds}
 use Rattle.tta_load.specs.declared.status.Status.TheVariants as status
@@ -17,5 +17,6 @@ showing store faults latest = record { contents = Some store; faults = faults; l
 -- other way
 abbrev pub BuildCompletes : Type 0
 BuildCompletes =
-    (u : Units) (store : Store) (faults : ℕ) (latest : Option Fault) (M P OUT : List ℕ) (after : World) (s : Status) → HasRoomyPair u store M P
-    → (Rose faults after.faults → ⊥) → Builds u M P OUT (showing store faults latest) after s → (s ≡ status.Ok) ⊎ (s ≡ status.NoMemory)
+    (converts : Bool) (u : Units) (store : Store) (faults : ℕ) (latest : Option Fault) (M P OUT : List ℕ) (after : World) (s : Status)
+    → HasRoomyPair u store M P → (Rose faults after.faults → ⊥) → Builds converts u M P OUT (showing store faults latest) after s
+    → (s ≡ status.Ok) ⊎ (s ≡ status.NoMemory)

@@ -1,7 +1,6 @@
 pub mod Cited
 pub mod Asm
 pub mod Build
-pub mod BuildConverted
 pub mod Ifconv
 pub mod Dis
 pub mod Check
@@ -12,7 +11,6 @@ pub mod Sample
 pub mod NetEndings
 pub mod NetTextEndings
 pub mod Completes
-pub mod ConvertedCompletes
 pub mod WriteCompletes
 pub mod PutCompletes
 pub mod SampleHalts

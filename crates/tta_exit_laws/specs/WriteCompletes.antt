@@ -1,9 +1,17 @@
--- What `asm`, `dis` and `build` take without fail. Each of them writes a file.
-use Rattle.std.specs.Prelude.{◌≡◌, ◌⊎◌, ℕ, List, Option, Some}
+-- What `ifconv`, `asm`, `dis` and `build` take without fail. Each of them writes a file.
+use Rattle.std.specs.Prelude.{◌≡◌, ◌⊎◌, ℕ, Bool, List, Option, Some}
 use Rattle.tta_ports.specs.declared.fault.Fault.{Fault}
-use Rattle.tta_exit_laws.specs.Cited.{Store, Rose, World, Units, IsAccepted, LacksRoom, LacksConvertedRoom, Status, IsAssemblyFor, IsImageFor, IsProgramFor, HasPair, Assembles, Shows, Builds, BuildsConverted}
+use Rattle.tta_exit_laws.specs.Cited.{Store, Rose, World, Units, IsAccepted, LacksRoomWith, ProgramText, Status, Held, IsAssemblyFor, IsImageFor, IsProgramFor, HasPair, WritesConverted, Assembles, Shows, Builds}
 use Rattle.tta_load.specs.declared.status.Status.TheVariants as status
 use Rattle.tta_exit_laws.specs.Completes.{showing}
+
+-- `ifconv` of a file that holds a program, where no call on the files fails, writes the text or is out of memory, and ends in
+-- no other way
+abbrev pub IfconvCompletes : Type 0
+IfconvCompletes =
+    (u : Units) (store : Store) (faults : ℕ) (latest : Option Fault) (P OUT : List ℕ) (after : World) (s : Status)
+    → Held (ProgramText u) (Some store) P → (Rose faults after.faults → ⊥) → WritesConverted u P OUT (showing store faults latest) after s
+    → (s ≡ status.Ok) ⊎ (s ≡ status.NoMemory)
 
 -- `asm` of a machine and assembly for it, where no call on the files fails, writes the image or is out of memory, and ends in no
 -- other way
@@ -34,13 +42,6 @@ pub record IsFull (Lacks : (words have : ℕ) → Type 0) (s : Status) : Type 0 
 -- that is too long; and it ends in no other way
 abbrev pub BuildCompletesWithoutRoom : Type 0
 BuildCompletesWithoutRoom =
-    (u : Units) (store : Store) (faults : ℕ) (latest : Option Fault) (M P OUT : List ℕ) (after : World) (s : Status) (has : HasAcceptedPair u store M P)
-    → (Rose faults after.faults → ⊥) → Builds u M P OUT (showing store faults latest) after s
-    → (s ≡ status.Ok) ⊎ (s ≡ status.NoMemory) ⊎ IsFull (LacksRoom u has.pair.machine.value.machine has.pair.second.value) s
-
--- and so does `build` with the word `convert`
-abbrev pub BuildConvertedCompletesWithoutRoom : Type 0
-BuildConvertedCompletesWithoutRoom =
-    (u : Units) (store : Store) (faults : ℕ) (latest : Option Fault) (M P OUT : List ℕ) (after : World) (s : Status) (has : HasAcceptedPair u store M P)
-    → (Rose faults after.faults → ⊥) → BuildsConverted u M P OUT (showing store faults latest) after s
-    → (s ≡ status.Ok) ⊎ (s ≡ status.NoMemory) ⊎ IsFull (LacksConvertedRoom u has.pair.machine.value.machine has.pair.second.value) s
+    (converts : Bool) (u : Units) (store : Store) (faults : ℕ) (latest : Option Fault) (M P OUT : List ℕ) (after : World) (s : Status)
+    (has : HasAcceptedPair u store M P) → (Rose faults after.faults → ⊥) → Builds converts u M P OUT (showing store faults latest) after s
+    → (s ≡ status.Ok) ⊎ (s ≡ status.NoMemory) ⊎ IsFull (LacksRoomWith converts u has.pair.machine.value.machine has.pair.second.value) s

@@ -8,15 +8,12 @@ ghost use Rattle.tta_exit_laws.specs.Exec.{ExecByStatus};
 ghost use Rattle.tta_exit_laws.specs.Run.{RunByStatus};
 ghost use Rattle.tta_exit_laws.specs.Debug.{DebugByStatus};
 ghost use Rattle.tta_exit_laws.specs.Sample.{SampleByStatus};
-ghost use Rattle.tta_exit_laws.specs.BuildConverted.{BuildConvertedByStatus};
 ghost use Rattle.tta_exit_laws.specs.Ifconv.{IfconvByStatus};
 ghost use Rattle.tta_exit_laws.specs.NetEndings.{NetByStatus};
 ghost use Rattle.tta_exit_laws.specs.NetTextEndings.{NetTextByStatus};
 ghost use Rattle.tta_exit_laws.specs.Completes.{BuildCompletes};
-ghost use Rattle.tta_exit_laws.specs.ConvertedCompletes.{BuildConvertedCompletes, IfconvCompletes};
-ghost use Rattle.tta_exit_laws.specs.WriteCompletes.{AsmCompletes, DisCompletes};
+ghost use Rattle.tta_exit_laws.specs.WriteCompletes.{IfconvCompletes, AsmCompletes, DisCompletes};
 ghost use Rattle.tta_exit_laws.specs.WriteCompletes.{BuildCompletesWithoutRoom};
-ghost use Rattle.tta_exit_laws.specs.WriteCompletes.{BuildConvertedCompletesWithoutRoom};
 ghost use Rattle.tta_exit_laws.specs.PutCompletes.{ExecCompletes, RunCompletes};
 ghost use Rattle.tta_exit_laws.specs.PutCompletes.{DebugCompletes, CheckCompletes, SampleCompletes};
 ghost use Rattle.tta_exit_laws.specs.PutCompletes.{SampleCompletesWithoutRoom};
@@ -28,15 +25,10 @@ ghost use Rattle.tta_exit_laws.specs.CircuitCompletes.{CircuitCompletes, NetText
 ghost use Rattle.tta_exit_laws.specs.CostCompletes.{CostCompletes};
 ghost use Rattle.tta_exit_laws.specs.SampleHalts.{SampleHalts};
 
-/// `build` takes every machine and program that are accepted and have room: where no call on the
-/// files fails, it writes an image or is out of memory.
+/// `build` takes every machine and program that are accepted and have room, with the word `convert`
+/// and without it: where no call on the files fails, it writes an image or is out of memory.
 pub fn build_completes()
     ensures { BuildCompletes }
-{}
-
-/// So does `build` with the word `convert`.
-pub fn build_converted_completes()
-    ensures { BuildConvertedCompletes }
 {}
 
 /// `ifconv` takes every program: where no call on the files fails, it writes a text or is out of
@@ -49,11 +41,6 @@ pub fn ifconv_completes()
 /// on the files fails, it writes an image, is out of memory, or finds the code too long.
 pub fn build_completes_without_room()
     ensures { BuildCompletesWithoutRoom }
-{}
-
-/// So does `build` with the word `convert`.
-pub fn build_converted_completes_without_room()
-    ensures { BuildConvertedCompletesWithoutRoom }
 {}
 
 /// `asm` takes every assembly for a machine: where no call on the files fails, it writes the image
@@ -174,7 +161,8 @@ pub fn prompt_completes()
     ensures { PromptCompletes }
 {}
 
-/// What holds where `build` ends with a status, for each status.
+/// What holds where `build` ends with a status, for each status, with the word `convert` and without
+/// it.
 pub fn build_by_status()
     ensures { BuildByStatus }
 {}
@@ -212,11 +200,6 @@ pub fn debug_by_status()
 /// What holds where `sample` ends with a status, for each status.
 pub fn sample_by_status()
     ensures { SampleByStatus }
-{}
-
-/// What holds where `build` with the word `convert` ends with a status, for each status.
-pub fn build_converted_by_status()
-    ensures { BuildConvertedByStatus }
 {}
 
 /// What holds where `ifconv` ends with a status, for each status.

@@ -7,7 +7,6 @@ mod laws;
 
 pub use laws::{
     asm_by_status, asm_completes, build_by_status, build_completes, build_completes_without_room,
-    build_converted_by_status, build_converted_completes, build_converted_completes_without_room,
     check_by_status, check_completes, circuit_completes, cost_completes, debug_by_status,
     debug_completes, dis_by_status, dis_completes, exec_by_status, exec_completes,
     ifconv_by_status, ifconv_completes, info_completes, machine_view_completes, net_by_status,

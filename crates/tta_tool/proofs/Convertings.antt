@@ -1,12 +1,9 @@
--- What was made of a converted program, and what became of it.
+-- What text was made of a converted program, and what became of it.
 use Rattle.std.proofs.Common.{◌≡◌, ◌⊎◌, ℕ, List, Result, Ok, Err, sym, subst, inl, inr}
-use Rattle.tta_tool.specs.Cited.{World, IsUntouched, Units, Program, Whole, Image, ProgramText, Converted, printed, IsBuiltConverted, MachineFile, Status, IsTaken, MadeEnds, no_memory, WritesMade, WritingEnds}
+use Rattle.tta_tool.specs.Cited.{World, IsUntouched, Units, Program, ProgramText, Converted, printed, Status, IsTaken, MadeEnds, no_memory, WritesMade, WritingEnds}
 use Rattle.tta_ports.proofs.Worlds.{same_world}
 use Rattle.tta_load.proofs.Endings.{writing_ends}
 use Rattle.tta_tool.specs.Ifconv.{IsConvertedText, WritesConverted}
-use Rattle.tta_tool.specs.BuildConverted.{IsConvertedImageOf, IsConvertedCauseOf}
-
--- ---- texts
 
 -- the printed text of the converted program
 pub converted_text : {T : Type 0} → (u : Units) (p q : Program) (items : T → List ℕ) (result : Result T Status)
@@ -28,12 +25,3 @@ writes_converted {T} u P OUT p before between after items made s taken ends wrot
           → (IsUntouched before after × no_memory s) ⊎ WritingEnds (IsConvertedText u p) OUT before after s
       of (Ok v) ends wrote = inr (writing_ends (IsConvertedText u p) OUT (items v) before after s ends wrote)
       of (Err e) ends wrote = inl (wrote.1, subst no_memory (sym wrote.0) ends)
-
--- ---- images
-
--- code that was built of the converted program, and what became of its image
-pub converted_image : {T : Type 0} → (u : Units) (file : MachineFile) (p : Program) (whole : Whole) (items : T → List ℕ) (result : Result T Status)
-    → IsBuiltConverted u file.machine p whole → MadeEnds (Image file.machine file.digest whole) no_memory items result
-    → MadeEnds (IsConvertedImageOf u file p) (IsConvertedCauseOf u file.machine p) items result
-converted_image u file p whole items (Ok v) built ends = record { whole = whole; image = ends; built = built }
-converted_image u file p whole items (Err s) built ends = subst (IsConvertedCauseOf u file.machine p) (sym ends) tt

@@ -5,8 +5,8 @@ pub use Rattle.tta_arch.specs.Machine.{Machine}
 pub use Rattle.tta_arch.specs.declared.parts.Op.{Op}
 pub use Rattle.tta_arch.specs.declared.parts.Op.TheVariants.{Out}
 unfoldable pub use Rattle.tta_disasm.specs.Canonical.{canonical}
-pub use Rattle.tta_build.specs.Converted.{HasConvertedCause, IsBuiltConverted}
-pub use Rattle.tta_build.specs.Statement.{HasCause, IsBuilt}
+pub use Rattle.tta_build.specs.Converted.{HasCauseWith, IsBuiltWith}
+pub use Rattle.tta_build.specs.Statement.{IsBuilt}
 pub use Rattle.tta_check.specs.Verdict.{IsSafe, IsUnsafe, NeverFaults}
 pub use Rattle.tta_code.specs.Cycle.{Fault, Pending, acts, cyc, effects_of, fault_of, lands, or_fault, or_wait, pending_after, read_source, takes_effect}
 pub use Rattle.tta_code.specs.Whole.{Whole, data_in, laid_by}

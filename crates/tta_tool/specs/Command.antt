@@ -1,9 +1,8 @@
 -- How a command ends.
 use Rattle.std.specs.Prelude.{Option, Some, None}
 use Rattle.tta_tool.specs.Cited.{World, Output, IsQuiet, Units, Status, IsUsage, Nets}
-use Rattle.tta_tool.specs.Request.{Request, Build, BuildConverted, Ifconv, Asm, Dis, Check, Exec, Run, Debug, Sample, Net}
+use Rattle.tta_tool.specs.Request.{Request, Build, Ifconv, Asm, Dis, Check, Exec, Run, Debug, Sample, Net}
 use Rattle.tta_tool.specs.Build.{Builds}
-use Rattle.tta_tool.specs.BuildConverted.{BuildsConverted}
 use Rattle.tta_tool.specs.Ifconv.{WritesConverted}
 use Rattle.tta_tool.specs.Asm.{Assembles}
 use Rattle.tta_tool.specs.Dis.{Shows}
@@ -16,8 +15,7 @@ use Rattle.tta_tool.specs.Sample.{Samples}
 -- How a request ends. What writes a file outputs nothing.
 abbrev pub Ends : Units → Option Request → (before after : World) → (old new : Output) → Status → Type 0
 Ends u None before after old new s = IsUsage before after old new s
-Ends u (Some (Build machine program out)) before after old new s = Builds u machine program out before after s × IsQuiet old new
-Ends u (Some (BuildConverted machine program out)) before after old new s = BuildsConverted u machine program out before after s × IsQuiet old new
+Ends u (Some (Build machine program out converts)) before after old new s = Builds converts u machine program out before after s × IsQuiet old new
 Ends u (Some (Ifconv program out)) before after old new s = WritesConverted u program out before after s × IsQuiet old new
 Ends u (Some (Asm machine assembly out)) before after old new s = Assembles u machine assembly out before after s × IsQuiet old new
 Ends u (Some (Dis machine image out)) before after old new s = Shows u machine image out before after s × IsQuiet old new

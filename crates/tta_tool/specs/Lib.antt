@@ -1,6 +1,5 @@
 pub mod Cited
 pub mod Build
-pub mod BuildConverted
 pub mod Ifconv
 pub mod Asm
 pub mod Dis

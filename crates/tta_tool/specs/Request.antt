@@ -1,5 +1,5 @@
 -- What the words of a command line ask for.
-use Rattle.std.specs.Prelude.{ℕ, if◌then◌else◌, List, [], ◌∷◌, length, map, Option, Some, None, codes, option_and_then, option_map}
+use Rattle.std.specs.Prelude.{ℕ, Bool, true, false, if◌then◌else◌, List, [], ◌∷◌, length, map, Option, Some, None, codes, option_and_then, option_map}
 use Rattle.std.specs.Str.{bytes_eq}
 use Rattle.std.specs.String.{string_bytes}
 use Rattle.tta_tool.specs.declared.request.Request.{Request as Asked}
@@ -9,8 +9,7 @@ use Rattle.tta_tool.specs.Numbers.{seed_of, lines_of}
 
 -- what can be asked for
 pub data Request : Type 0 where
-  Build : (machine program out : List ℕ) → Request
-  BuildConverted : (machine program out : List ℕ) → Request
+  Build : (machine program out : List ℕ) (converts : Bool) → Request
   Asm : (machine assembly out : List ℕ) → Request
   Dis : (machine image out : List ℕ) → Request
   Check : (machine image : List ℕ) → Request
@@ -24,7 +23,7 @@ pub data Request : Type 0 where
 -- the request of the name of a command whose last word is a file that it writes
 abbrev pub writing_request : (word machine second out : List ℕ) → Option Request
 writing_request word machine second out =
-    if bytes_eq word (codes "build") then Some (Build machine second out)
+    if bytes_eq word (codes "build") then Some (Build machine second out false)
     else if bytes_eq word (codes "asm") then Some (Asm machine second out)
     else if bytes_eq word (codes "dis") then Some (Dis machine second out)
     else None
@@ -44,7 +43,7 @@ running_request word machine second input last stream =
 
 -- the request of `build` by the word after its files
 abbrev pub mode_request : (mode machine program out : List ℕ) → Option Request
-mode_request mode machine program out = if bytes_eq mode (codes "convert") then Some (BuildConverted machine program out) else None
+mode_request mode machine program out = if bytes_eq mode (codes "convert") then Some (Build machine program out true) else None
 
 -- the request of the name of a command with four words, the last of which is a mode, a script or a bound
 abbrev pub long_request : (word machine second third last : List ℕ) → (stream : Option (List ℕ)) → Option Request
@@ -89,8 +88,7 @@ request_of (word ∷ words) = if bytes_eq word (codes "net") then net_request wo
 
 -- what the code's request asks for
 abbrev pub asked : Asked → Request
-asked (for.Build files) = Build files.machine.now files.second.now files.out.now
-asked (for.BuildConverted files) = BuildConverted files.machine.now files.second.now files.out.now
+asked (for.Build build) = Build build.names.machine.now build.names.second.now build.names.out.now build.converts
 asked (for.Asm files) = Asm files.machine.now files.second.now files.out.now
 asked (for.Dis files) = Dis files.machine.now files.second.now files.out.now
 asked (for.Check files) = Check files.machine.now files.image.now

@@ -1,5 +1,5 @@
 -- What the command `sample` does, and why it does not.
-use Rattle.std.specs.Prelude.{◌≡◌, ◌⊎◌, ℕ, ◌≤◌, ◌+◌, ◌*◌, Bool, true, List, [], ◌∷◌, length, replicate}
+use Rattle.std.specs.Prelude.{◌≡◌, ◌⊎◌, ℕ, ◌≤◌, ◌+◌, ◌*◌, Bool, true, false, List, [], ◌∷◌, length, replicate}
 use Rattle.tta_tool.specs.Cited.{World, IsUntouched, Output, IsQuiet, IsPut, IsCut, Line, lines_text, Units, Machine, Program, step_count, sample_text, Whole, program_at, code_at, HaltAlike, IsBuilt, Status, HasMachine, MachineFails, IsProgramIn, RefusesProgram}
 use Rattle.tta_report.specs.declared.line.Line.TheVariants as line
 use Rattle.tta_program.specs.Sequential as program
@@ -63,7 +63,7 @@ CompareEnds u m p whole bound old new s = ⊥
 -- program.
 abbrev pub CompileEnds : Units → Machine → Program → (bound : ℕ) → (old new : Output) → Status → Type 0
 CompileEnds u m p bound old new s =
-    (IsCauseOf u m p s × IsQuiet old new) ⊎ ((whole : Whole) × IsBuilt u m p whole × CompareEnds u m p whole bound old new s)
+    (IsCauseOf false u m p s × IsQuiet old new) ⊎ ((whole : Whole) × IsBuilt u m p whole × CompareEnds u m p whole bound old new s)
 
 -- The same where a machine was read: the sample's text is refused for its data space, or it is that of a program.
 abbrev pub SampleForEnds : Units → Machine → (seed lines : ℕ) → (old new : Output) → Status → Type 0

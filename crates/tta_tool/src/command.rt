@@ -8,7 +8,6 @@ ghost use Rattle.tta_tool.specs.Command.{Ends};
 
 use crate::asm::assemble_image;
 use crate::build::build_image;
-use crate::build_converted::build_converted_image;
 use crate::checking::check_image;
 use crate::debugging::debug_image;
 use crate::dis::show_image;
@@ -35,8 +34,7 @@ fn carry_out<F: Files, S: Sink>(
         (F.world files.old) (F.world files.new) (S.output sink.old) (S.output sink.new) result }
 {
     match request {
-        Request::Build(names) => build_image(alloc, units, files, names),
-        Request::BuildConverted(names) => build_converted_image(alloc, units, files, names),
+        Request::Build(request) => build_image(alloc, units, files, request),
         Request::Asm(names) => assemble_image(alloc, units, files, names),
         Request::Dis(names) => show_image(alloc, units, files, names),
         Request::Check(names) => check_image(alloc, units, files, sink, names),

@@ -3,7 +3,6 @@
 
 mod asm;
 mod build;
-mod build_converted;
 mod checking;
 mod code_run;
 mod command;

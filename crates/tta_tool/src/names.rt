@@ -11,6 +11,14 @@ pub struct WriteRequest<'w> {
     pub out: &'w str,
 }
 
+/// An image of code that is to be built: the names of its files, and whether the program is
+/// converted first.
+#[derive(Clone, Copy)]
+pub struct BuildRequest<'w> {
+    pub names: WriteRequest<'w>,
+    pub converts: bool,
+}
+
 /// The names of the files of a command that makes one of a program alone: the program's, and that of
 /// the result.
 #[derive(Clone, Copy)]

@@ -9,7 +9,8 @@ ghost use Rattle.tta_tool.specs.Request.{lone_request, mode_request, long_reques
 ghost use Rattle.tta_tool.specs.Request.{net_request, fixed_request};
 
 use crate::names::{
-    CheckRequest, ConvertRequest, RunFiles, RunRequest, SampleRequest, SessionRequest, WriteRequest,
+    BuildRequest, CheckRequest, ConvertRequest, RunFiles, RunRequest, SampleRequest,
+    SessionRequest, WriteRequest,
 };
 use crate::numbers::{lines_of, seed_of};
 use tta_load::bound_of;
@@ -18,9 +19,7 @@ use tta_net_command::{NetRequest, is_net, rounds_of};
 /// What is asked for.
 #[derive(Clone, Copy)]
 pub enum Request<'w> {
-    Build(WriteRequest<'w>),
-    /// `build` with the word `convert` after its files.
-    BuildConverted(WriteRequest<'w>),
+    Build(BuildRequest<'w>),
     Asm(WriteRequest<'w>),
     Dis(WriteRequest<'w>),
     Check(CheckRequest<'w>),
@@ -39,7 +38,10 @@ fn of_files<'w>(word: &str, files: WriteRequest<'w>) -> Option<Request<'w>>
         files.entry.machine.now files.entry.second.now files.entry.out.now }
 {
     if word == "build" {
-        return Some(Request::Build(files));
+        return Some(Request::Build(BuildRequest {
+            names: files,
+            converts: false,
+        }));
     }
     if word == "asm" {
         return Some(Request::Asm(files));
@@ -141,7 +143,10 @@ fn of_mode<'w>(mode: &str, files: WriteRequest<'w>) -> Option<Request<'w>>
         files.entry.machine.now files.entry.second.now files.entry.out.now }
 {
     if mode == "convert" {
-        return Some(Request::BuildConverted(files));
+        return Some(Request::Build(BuildRequest {
+            names: files,
+            converts: true,
+        }));
     }
     None
 }

@@ -48,7 +48,7 @@ fn compile_and_compare<S: Sink>(
             };
             compare(alloc, units, sink, &compiled, bound)
         }
-        Err(error) => ending_of(error, units, machine, program),
+        Err(error) => ending_of(error),
     }
 }
 

@@ -6,7 +6,7 @@ use Rattle.tta_build.proofs.direct.compile_direct.Goals as goal
 
 pub link_placed-requires : goal.link_placed-requires
 link_placed-requires c =
-    are_blocks c.args.on.now.machine.now c.args.p.now c.in_ok-lowered.lowered c.requires.program c.requires.direct c.in_ok-lowered.ensures c.requires.machine
+    are_blocks c.args.on.now.machine.now c.args.p.now c.in_ok-lowered.lowered c.rules-2.ensures c.requires.direct c.in_ok-lowered.ensures c.rules.ensures
     c.in_ok-planned.planned c.in_ok-planned.ensures c.as_slice.result.now c.as_slice.ensures.value
 
 pub returns-clause-value : goal.returns-clause-value
@@ -20,11 +20,11 @@ returns-clause-value c = record {
 
 pub returns-clause-code : goal.returns-clause-code
 returns-clause-code c u =
-    linked_for c.args.on.now.machine.now c.args.p.now c.in_ok-lowered.lowered c.requires.program c.requires.direct c.in_ok-lowered.ensures c.requires.machine
+    linked_for c.args.on.now.machine.now c.args.p.now c.in_ok-lowered.lowered c.rules-2.ensures c.requires.direct c.in_ok-lowered.ensures c.rules.ensures
     c.in_ok-planned.planned c.in_ok-planned.ensures c.as_slice.result.now c.as_slice.ensures.value c.in_ok-code.code c.in_ok-code.ensures.linked c.in_ok-code.ensures.legal u
 
 pub returns-in_err-code-clause-cause : goal.returns-in_err-code-clause-cause
 returns-in_err-code-clause-cause c =
     let error = err_from_is_err_and c.from_residual-in_err-code.result c.from_residual-in_err-code.ensures.1 in
-    rw (error.1, error.2) (cause_for c.args.on.now.machine.now c.args.p.now c.in_ok-lowered.lowered c.requires.program c.requires.direct c.in_ok-lowered.ensures c.requires.machine
+    rw (error.1, error.2) (cause_for c.args.on.now.machine.now c.args.p.now c.in_ok-lowered.lowered c.rules-2.ensures c.requires.direct c.in_ok-lowered.ensures c.rules.ensures
     c.in_ok-planned.planned c.in_ok-planned.ensures c.as_slice.result.now c.as_slice.ensures.value c.in_err-code.field-0.0 c.in_err-code.ensures.cause)

@@ -5,7 +5,7 @@ use Rattle.tta_build.proofs.placed_program.homes_for.Goals as goal
 
 pub overflow_cast-homes : goal.overflow_cast-homes
 overflow_cast-homes c =
-    let few = few_homes c.args.on.now.joined.machine.now c.args.on.now.choice.now c.requires.machine c.args.on.now.choice_of in
+    let few = few_homes c.args.on.now.joined.machine.now c.args.on.now.choice.now c.rules.ensures c.args.on.now.choice_of in
     let size = c.len-homes.ensures in omega (arith, few, size)
 
 pub returns : goal.returns

@@ -1,4 +1,4 @@
-use Rattle.std.proofs.Common.{◌↔◌, ℕ, List, inl, inr}
+use Rattle.std.proofs.Common.{◌↔◌, ℕ, Bool, List, inl, inr}
 use Rattle.tta_exit_laws.specs.Cited.{World, Units, Status, ReadFailed, IsProgramFor, RefusesProgramFor, IsImageOf, IsCauseOf, Builds}
 use Rattle.tta_load.specs.declared.status.Status.TheVariants as status
 use Rattle.tta_load.specs.Held.{IsTooLong}
@@ -6,12 +6,15 @@ use Rattle.tta_load.proofs.Stages.{none, pair_at, WriteStages, write_stages}
 use Rattle.tta_exit_laws.specs.Build.{BuildEndings}
 use Rattle.tta_exit_laws.proofs.laws.build_by_status.Goals as goal
 
-module _ (u : Units) (M P OUT : List ℕ) (before after : World) where
+module _ (converts : Bool) (u : Units) (M P OUT : List ℕ) (before after : World) where
   of : (s : Status) (G : Type 0)
-      → WriteStages u (IsProgramFor u) (RefusesProgramFor u) (IsImageOf u) (λ file p. IsCauseOf u file.machine p) M P OUT before after s G
-  of s G = write_stages u (IsProgramFor u) (RefusesProgramFor u) (IsImageOf u) (λ file p. IsCauseOf u file.machine p) M P OUT before after s G
+      → WriteStages u (IsProgramFor u) (RefusesProgramFor u) (IsImageOf converts u) (λ file p. IsCauseOf converts u file.machine p)
+      M P OUT before after s G
+  of s G =
+      write_stages u (IsProgramFor u) (RefusesProgramFor u) (IsImageOf converts u) (λ file p. IsCauseOf converts u file.machine p)
+      M P OUT before after s G
 
-  by_status : (s : Status) → Builds u M P OUT before after s ↔ BuildEndings u M P OUT before after s
+  by_status : (s : Status) → Builds converts u M P OUT before after s ↔ BuildEndings converts u M P OUT before after s
   by_status status.Ok = (of status.Ok _ absurd none (λ m. absurd) (λ m. none) (λ p e. absurd e.1) (λ p e. (p, e)), λ e. inr (e.0, inr e.1))
   by_status (status.BadMachine line code) =
       (of (status.BadMachine line code) _ absurd (λ e. e) (λ m. absurd) (λ m. none) (λ p e. absurd e.1) (λ p. absurd), λ e. inl (inl (inr e)))

@@ -7,13 +7,14 @@ use Rattle.tta_exit_laws.proofs.AcceptedPairs.{cause_only}
 use Rattle.tta_exit_laws.proofs.laws.build_completes_without_room.Goals as goal
 
 pub returns : goal.returns
-returns c = λ u store faults latest M P OUT after s has none ends.
+returns c = λ converts u store faults latest M P OUT after s has none ends.
     let pair = has.pair in
     let file = pair.machine.value in
     let program = pair.second.value in
-    elim (writes_only u store faults latest after none (IsProgramFor u) (RefusesProgramFor u) (IsImageOf u) (λ file p. IsCauseOf u file.machine p) M P OUT s pair
+    elim (writes_only u store faults latest after none (IsProgramFor u) (RefusesProgramFor u) (IsImageOf converts u)
+    (λ file p. IsCauseOf converts u file.machine p) M P OUT s pair
     (λ text. program_only u file.machine.data_words text program s) (λ text p is also. one_program u text p program is.read also.read) ends) [
       | inl (inl done) ↦ inl done
       | inl (inr lacks) ↦ inr (inl lacks)
-      | inr lacks ↦ inr (cause_only u file.machine program s has.accepted lacks)
+      | inr lacks ↦ inr (cause_only converts u file.machine program s has.accepted lacks)
     ]

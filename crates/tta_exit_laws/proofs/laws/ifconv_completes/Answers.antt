@@ -2,7 +2,7 @@ use Rattle.std.proofs.Common.{◌≡◌, ℕ, List, refl, inl, inr}
 use Rattle.tta_exit_laws.specs.Cited.{Units, ProgramText, Status, RefusesSource, IsConvertedText}
 use Rattle.tta_program.specs.Program.{Program}
 use Rattle.tta_load.specs.declared.status.Status.TheVariants as status
-use Rattle.tta_exit_laws.specs.ConvertedCompletes.{IfconvCompletes}
+use Rattle.tta_exit_laws.specs.WriteCompletes.{IfconvCompletes}
 use Rattle.tta_exit_laws.proofs.OneProgram.{not_refused}
 use Rattle.tta_exit_laws.proofs.FilesTaken.{file_only}
 use Rattle.tta_exit_laws.proofs.PairsTaken.{writing_only}

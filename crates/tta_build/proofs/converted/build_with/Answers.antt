@@ -1,6 +1,6 @@
 use Rattle.tta_ifconv.proofs.Unique.{stands_over}
 use Rattle.tta_build.proofs.ConvertedBuilt.{built_so, cause_so}
-use Rattle.tta_build.proofs.converted.build_converted.Goals as goal
+use Rattle.tta_build.proofs.converted.build_with.Goals as goal
 
 pub build-requires-clause-program : goal.build-requires-clause-program
 build-requires-clause-program g c = stands_over _ c.args.p.now _ c.in_ok-q.ensures.converted c.requires.program

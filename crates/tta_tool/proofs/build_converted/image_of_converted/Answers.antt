@@ -1,9 +1,0 @@
-use Rattle.tta_tool.specs.Cited.{stated}
-use Rattle.tta_tool.proofs.Convertings.{converted_image}
-use Rattle.tta_tool.proofs.build_converted.image_of_converted.Goals as goal
-
-pub returns-in-Ok : goal.returns-in-Ok
-returns-in-Ok g c =
-    let U = stated (λ v. (goal.OpUnit-dyn g v).unit_meaning v.1) c.args.units.now in
-    converted_image U c.args.pair.now.file c.args.pair.now.program c.in-Ok.built.whole (λ v. v.items) c.image_of_whole.result
-    c.in-Ok.ensures.built c.image_of_whole.ensures
