@@ -2,8 +2,11 @@
 use Rattle.std.proofs.Common.{◌≡◌, ◌≤◌, Bool, true, false, List, None, Result, Ok, Err, refl, sym, ap, subst, ◌∙◌, length}
 use Rattle.std.specs.Prelude.{IfOk, if◌then◌else◌, nat_lt}
 use Rattle.std.proofs.lemmas.Result.{IfOk-at_ok}
-use Rattle.tta_build.specs.Cited.{Units, Machine, IsMachine, StandsOver, Choice, IsChoice, failed_rule, Program, IsProgram, Homes, AreAllotted, Code, IsLegalCode, Placed, selected, AreBlocks, total_length, IsLinked, are_offered, is_direct}
+use Rattle.tta_build.specs.Cited.{Units, Machine, IsMachine, StandsOver, Choice, IsChoice, failed_rule, Program, IsProgram, Homes, AreAllotted, Code, IsLegalCode, Placed, selected, AreBlocks, total_length, IsLinked, IsCause, are_offered, is_direct}
+use Rattle.tta_lower.specs.declared.error.LowerError.{LowerError}
+use Rattle.tta_lower.specs.declared.error.LowerError.TheVariants.{FrameFull, NoMemory}
 use Rattle.tta_build.specs.declared.error.BuildError.{BuildError}
+use Rattle.tta_build.specs.Errors.{of_lower}
 use Rattle.tta_build.specs.declared.register.Analysed.{Analysed}
 use Rattle.tta_build.specs.declared.register.Sharing.TheVariants.{InTurn, Least}
 use Rattle.tta_build.specs.declared.placed_program.Homed.{Homed}
@@ -129,6 +132,13 @@ module _ (u : Units) (m : Machine) (c : Choice) (p : Program) (machine : IsMachi
         let built : Result Code BuildError = Err e in
         cause_compiled u m c p all ps choice other chosen same built cause
         (covered.err_for u m c p all ps machine over choice program offers placed same other kept supplied built cause)
+
+-- why a program is not lowered is why there is none
+pub lower_cause : (u : Units) (m : Machine) (p : Program) → is_direct m p ≡ false → failed_rule m ≡ None → unsupplied u m p ≡ None
+    → (e : LowerError) → IsCause p m.frame_words e → HasCause u m p (of_lower e)
+lower_cause u m p other kept supplied (FrameFull need have) cause =
+    record { other = other; covered = kept; supplied = supplied; words = cause.0; there = cause.1; more = cause.2 }
+lower_cause u m p other kept supplied NoMemory cause = tt
 
 -- ---- with what is chosen on the machine
 

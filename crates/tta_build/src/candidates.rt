@@ -190,7 +190,49 @@ impl Candidates {
         Ok(())
     }
 
-    /// Adds what a block's own list becomes, and that list with its operations on other units. It fails
+    /// Adds what a block's own list becomes with its operations on other units, and where it is short by
+    /// groups as it stands: of a longer one both give next to nothing more. It fails only without memory.
+    fn add_bound(
+        &mut self,
+        alloc: Global,
+        on: &Covered<'_>,
+        lists: &mut Vec<Trail>,
+        b: &BlockList,
+        bound: Bound,
+    ) -> Result<(), AllocError>
+        requires list { is_list on.now.joined.machine.now b.now.items ≡ true }
+        ensures { OnOk result (IsBound on.now.joined.machine.now b.now bound
+            → AreTrailsOf on.now.joined.machine.now b.now lists.old.items
+            → AreTrailsOf on.now.joined.machine.now b.now lists.new.items) }
+    {
+        push_bound(alloc, lists, None, Some(bound))?;
+        let own = self.rounder.of_groups(alloc, on, b, FEW_ITEMS, PLAINLY)?;
+        push_some(lists, own)?;
+        Ok(())
+    }
+
+    /// Adds what a block's own list becomes with its operations on other units, or as it stands where none
+    /// can stand on another. It fails only without memory.
+    fn add_first(
+        &mut self,
+        alloc: Global,
+        on: &Covered<'_>,
+        lists: &mut Vec<Trail>,
+        b: &BlockList,
+        bound: Option<Bound>,
+    ) -> Result<(), AllocError>
+        requires list { is_list on.now.joined.machine.now b.now.items ≡ true }
+        ensures { OnOk result (IfSome bound (λ x. IsBound on.now.joined.machine.now b.now x)
+            → AreTrailsOf on.now.joined.machine.now b.now lists.old.items
+            → AreTrailsOf on.now.joined.machine.now b.now lists.new.items) }
+    {
+        match bound {
+            Some(bound) => self.add_bound(alloc, on, lists, b, bound),
+            None => self.add_own(alloc, on, lists, b),
+        }
+    }
+
+    /// Adds what a block's own list becomes in these ways, and in the order from the last group. It fails
     /// only where there is no memory.
     fn of_own(
         &mut self,
@@ -203,11 +245,10 @@ impl Candidates {
         ensures { OnOk result (AreTrailsOf on.now.joined.machine.now b.now lists.old.items
             → AreTrailsOf on.now.joined.machine.now b.now lists.new.items) }
     {
-        self.add_own(alloc, on, lists, b)?;
+        let bound = self.bound(alloc, on, b)?;
+        self.add_first(alloc, on, lists, b, bound)?;
         let more = self.rounder.of_way(alloc, on, b, usize::MAX, LAST_FIRST)?;
         push_some(lists, more)?;
-        let bound = self.bound(alloc, on, b)?;
-        push_bound(alloc, lists, None, bound)?;
         Ok(())
     }
 
