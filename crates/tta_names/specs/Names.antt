@@ -4,7 +4,7 @@ use Rattle.std.specs.Option.{option_map_or}
 use Rattle.tta_arch.specs.Machine.{Machine}
 use Rattle.tta_arch.specs.Effects.{Place, KeptReg, KeptImm, KeptOperand, KeptRa, KeptPort}
 use Rattle.tta_disasm.specs.Canonical.{file_name, imm_name, unit_name}
-use Rattle.tta_hardware.specs.Signals.{Field, GuardOf, IsShort, SourceOf, ShortOf, DestOf, TemplateOf, LongOf, Store, Code, Data, Frame, Signal as Named, Pc, Whole, HasHalted, Underway, Goal, Ends, Keeps, IsDue, Due, HasBegun, Raw, IsInside, IsOffered, Offer, IsReady, IsReset, Port, Fetched, Word, Acts, Starts, Trigger, Operand, Controls, GoalNow, EndsNow, Lands, Asks, Gives, Goes, NextPc, Puts, PutWord, Expression}
+use Rattle.tta_hardware.specs.Signals.{Field, GuardOf, IsShort, SourceOf, ShortOf, DestOf, TemplateOf, LongOf, Store, Code, Data, Frame, Signal as Named, Pc, Whole, HasHalted, Underway, Goal, Ends, Keeps, IsDue, Due, HasBegun, Raw, IsInside, IsOffered, Offer, IsReady, IsReset, Port, Fetched, Word, Acts, Starts, Trigger, Operand, Controls, GoalNow, EndsNow, Lands, Asks, Gives, Goes, NextPc, Puts, PutWord, Watch, HasWord, IsPast, LacksRegister, LacksPort, LacksOperand, Clashes, FaultNow, Watches, Expression}
 use Rattle.tta_verilog.specs.Expressions.{Names, expression}
 
 -- the name of a bus
@@ -32,6 +32,16 @@ field_name m (ShortOf bus) = codes "short_" ++ bus_name m bus
 field_name m (DestOf bus) = codes "dest_" ++ bus_name m bus
 field_name m TemplateOf = codes "n_template"
 field_name m LongOf = codes "n_long"
+
+-- what is had by a circuit alone that stops at faults
+abbrev pub watch_name : Machine → Watch → List ℕ
+watch_name m (HasWord p) = codes "has_" ++ place_name m p
+watch_name m IsPast = codes "n_past"
+watch_name m (LacksRegister bus) = codes "unset_" ++ bus_name m bus
+watch_name m (LacksPort bus) = codes "unshown_" ++ bus_name m bus
+watch_name m (LacksOperand unit) = codes "lacks_" ++ unit_name m unit
+watch_name m (Clashes unit) = codes "clashes_" ++ unit_name m unit
+watch_name m FaultNow = codes "n_fault"
 
 -- A signal. What stands before the first `_` tells its kind; then comes a name of the machine, and a number where there is one. The
 -- inputs are called as the ports.
@@ -69,6 +79,7 @@ signal_name m Goes = codes "n_goes"
 signal_name m NextPc = codes "n_next_pc"
 signal_name m Puts = codes "n_puts"
 signal_name m PutWord = codes "n_put"
+signal_name m (Watches w) = watch_name m w
 
 -- a memory
 abbrev pub store_name : Store → List ℕ

@@ -2,5 +2,7 @@
 #![tactic(auto)]
 
 mod names;
+mod watches;
 
 pub use names::{push_immediate, push_of_bus, push_of_op, push_of_unit, push_register};
+pub use watches::{Place, Watch, push_watch};
