@@ -1,13 +1,13 @@
-mod Choices
+pub mod Choices
 mod CodeFiles
 mod Digits
 mod Filled
-mod Layouts
-mod Modules
+pub mod Layouts
+pub mod Modules
 mod Pieces
 mod RegisterTexts
 mod Shares
 mod Shown
-mod Texts
+pub mod Texts
 mod UnitRegisters
 mod UnitWires

@@ -18,7 +18,7 @@ use tta_verilog::{push_constant, push_number, push_range, push_text};
 
 /// Puts how the line of a wire begins.
 #[tactic(auto, unfolding(crate::specs::Texts::wire_start))]
-fn start_wire(out: &mut Vec<u8>, name: &[u8], width: u32) -> Result<(), AllocError>
+pub fn start_wire(out: &mut Vec<u8>, name: &[u8], width: u32) -> Result<(), AllocError>
     ensures { OnOk result (out.new.items ≡ out.old.items ++ wire_start name.now width) }
 {
     push_text(out, b"wire ")?;
@@ -140,7 +140,7 @@ fn push_gives(alloc: Global, out: &mut Vec<u8>, on: &On<'_>) -> Result<(), Alloc
 
 /// Puts the test that this clock carries the instruction out.
 #[tactic(auto, unfolding(tta_verilog::specs::Expressions::between, tta_verilog::specs::Expressions::negated))]
-fn push_goes_test(out: &mut Vec<u8>, on: &On<'_>) -> Result<(), AllocError>
+pub fn push_goes_test(out: &mut Vec<u8>, on: &On<'_>) -> Result<(), AllocError>
     ensures { OnOk result (out.new.items ≡ out.old.items
         ++ text_of on.now.m.now (w.made_of on.now.m.now s.Goes)) }
 {
@@ -194,7 +194,7 @@ fn push_following(out: &mut Vec<u8>, on: &On<'_>, address: u32) -> Result<(), Al
 
 /// Puts the test that a control move takes effect that does not halt.
 #[tactic(auto, unfolding(tta_verilog::specs::Expressions::between, tta_verilog::specs::Expressions::negated))]
-fn push_leads(out: &mut Vec<u8>, on: &On<'_>) -> Result<(), AllocError>
+pub fn push_leads(out: &mut Vec<u8>, on: &On<'_>) -> Result<(), AllocError>
     ensures { OnOk result (out.new.items ≡ out.old.items ++ text_of on.now.m.now
         (c.Both (c.Signal s.Lands) (c.Not (c.Signal s.EndsNow)))) }
 {
@@ -260,20 +260,36 @@ fn push_put(alloc: Global, out: &mut Vec<u8>, on: &On<'_>) -> Result<(), AllocEr
     push_text(out, b";\n")
 }
 
-/// Puts the wires of control, and of the words that come and go.
-pub fn push_control(alloc: Global, out: &mut Vec<u8>, on: &On<'_>) -> Result<(), AllocError>
+/// Puts what control does, and whether words are asked for and put out.
+pub fn push_steering(alloc: Global, out: &mut Vec<u8>, on: &On<'_>) -> Result<(), AllocError>
     ensures { OnOk result (out.new.items ≡ out.old.items ++ wires_text on.now.m.now
-        (s.Controls ∷ s.GoalNow ∷ s.EndsNow ∷ s.Lands ∷ s.Asks ∷ s.Gives ∷ s.Goes ∷ s.NextPc
-        ∷ s.Puts ∷ s.PutWord ∷ [])) }
+        (s.Controls ∷ s.GoalNow ∷ s.EndsNow ∷ s.Lands ∷ s.Asks ∷ s.Gives ∷ [])) }
 {
     push_controls(out, on)?;
     push_goal(out, on)?;
     push_ends(out, on)?;
     push_lands(out, on)?;
     push_asks(alloc, out, on)?;
-    push_gives(alloc, out, on)?;
-    push_goes(out, on)?;
+    push_gives(alloc, out, on)
+}
+
+/// Puts the wires that read whether this clock carries the instruction out, or stand behind it.
+pub fn push_outcome(alloc: Global, out: &mut Vec<u8>, on: &On<'_>) -> Result<(), AllocError>
+    ensures { OnOk result (out.new.items ≡ out.old.items
+        ++ wires_text on.now.m.now (s.NextPc ∷ s.Puts ∷ s.PutWord ∷ [])) }
+{
     push_next_pc(out, on)?;
     push_puts(out, on)?;
     push_put(alloc, out, on)
+}
+
+/// Puts the wires of control, and of the words that come and go.
+pub fn push_control(alloc: Global, out: &mut Vec<u8>, on: &On<'_>) -> Result<(), AllocError>
+    ensures { OnOk result (out.new.items ≡ out.old.items ++ wires_text on.now.m.now
+        (s.Controls ∷ s.GoalNow ∷ s.EndsNow ∷ s.Lands ∷ s.Asks ∷ s.Gives ∷ s.Goes ∷ s.NextPc
+        ∷ s.Puts ∷ s.PutWord ∷ [])) }
+{
+    push_steering(alloc, out, on)?;
+    push_goes(out, on)?;
+    push_outcome(alloc, out, on)
 }

@@ -17,7 +17,7 @@ use tta_names::push_immediate;
 use tta_verilog::{push_constant, push_text};
 
 /// Whether a template writes a register of an immediate unit.
-fn writes(t: &Template, unit: u8, index: u8) -> bool
+pub fn writes(t: &Template, unit: u8, index: u8) -> bool
     ensures { result ≡ (t.now.imm == unit && t.now.reg == index) }
 {
     t.imm == unit && t.reg == index
@@ -25,7 +25,7 @@ fn writes(t: &Template, unit: u8, index: u8) -> bool
 
 /// Puts the test whether the instruction has a template.
 #[tactic(auto, unfolding(tta_verilog::specs::Expressions::between))]
-fn push_has_template(out: &mut Vec<u8>, on: &On<'_>, template: u8) -> Result<(), AllocError>
+pub fn push_has_template(out: &mut Vec<u8>, on: &On<'_>, template: u8) -> Result<(), AllocError>
     ensures { let M = on.now.m.now in
         OnOk result (out.new.items ≡ out.old.items ++ text_of M (has_template M template)) }
 {

@@ -9,7 +9,7 @@ use std::alloc::AllocError;
 use tta_verilog::{push_range, push_text};
 
 /// Puts a text where a test holds.
-fn push_if(out: &mut Vec<u8>, test: bool, text: &[u8]) -> Result<(), AllocError>
+pub fn push_if(out: &mut Vec<u8>, test: bool, text: &[u8]) -> Result<(), AllocError>
     ensures { OnOk result
         (out.new.items ≡ out.old.items ++ (if test then text.now else [])) }
 {

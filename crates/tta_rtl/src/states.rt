@@ -18,7 +18,7 @@ use tta_verilog::{push_constant, push_number, push_text};
 
 /// Puts the name of what says whether a control move takes effect in so many cycles.
 #[tactic(auto, unfolding(crate::specs::Kept::underway_name))]
-fn push_underway_name(out: &mut Vec<u8>, delay: u64) -> Result<(), AllocError>
+pub fn push_underway_name(out: &mut Vec<u8>, delay: u64) -> Result<(), AllocError>
     ensures { OnOk result (out.new.items ≡ out.old.items ++ underway_name delay) }
 {
     push_text(out, b"n_underway_")?;

@@ -48,23 +48,23 @@ pub struct Module<'a> {
 
 /// A machine with its operations, and what its memories begin with.
 #[derive(Clone, Copy)]
-struct Core<'a> {
-    on: &'a On<'a>,
-    units: &'a UnitSet,
-    rom: Rom,
+pub struct Core<'a> {
+    pub on: &'a On<'a>,
+    pub units: &'a UnitSet,
+    pub rom: Rom,
     /// How many instructions the code has.
-    words: usize,
+    pub words: usize,
     /// The bytes of the instructions.
-    body: &'a [u8],
+    pub body: &'a [u8],
     /// The words that the data space begins with.
-    first: &'a [u32],
+    pub first: &'a [u32],
     ghost inside: { words * on.now.layout.now.width ≤ 8 * length body.now },
     ghost few: { 8 * length body.now < 2 ^ 64 },
     ghost sized: { length first.now ≡ on.now.m.now.data_words },
 }
 
 /// Puts all registers: how many bits each has, and else what each becomes.
-fn push_registers(out: &mut Vec<u8>, on: &On<'_>, declares: bool) -> Result<(), AllocError>
+pub fn push_registers(out: &mut Vec<u8>, on: &On<'_>, declares: bool) -> Result<(), AllocError>
     ensures { let M = on.now.m.now in
         OnOk result (out.new.items ≡ out.old.items
         ++ registers_text M declares (h.register_names M)) }
@@ -99,7 +99,7 @@ fn push_rom(out: &mut Vec<u8>, core: &Core<'_>) -> Result<(), AllocError>
 }
 
 /// Puts the memories.
-fn push_memories(out: &mut Vec<u8>, core: &Core<'_>) -> Result<(), AllocError>
+pub fn push_memories(out: &mut Vec<u8>, core: &Core<'_>) -> Result<(), AllocError>
     ensures { let M = core.now.on.now.m.now in
         let WORDS = words_in M core.now.body.now core.now.words in
         OnOk result (out.new.items ≡ out.old.items
@@ -128,7 +128,7 @@ fn push_store_of(
 }
 
 /// Puts where the two spaces are written.
-fn push_stores(alloc: Global, out: &mut Vec<u8>, m: &Machine) -> Result<(), AllocError>
+pub fn push_stores(alloc: Global, out: &mut Vec<u8>, m: &Machine) -> Result<(), AllocError>
     ensures { OnOk result (out.new.items ≡ out.old.items ++ p.stores_text m.now) }
 {
     push_store_of(alloc, out, m, b"data", m.data_words, Op::Stw)?;
@@ -199,7 +199,7 @@ fn push_module(
 }
 
 /// The words that the data space begins with.
-fn first_words(alloc: Global, m: &Machine, whole: &Whole) -> Result<Vec<u32>, AllocError>
+pub fn first_words(alloc: Global, m: &Machine, whole: &Whole) -> Result<Vec<u32>, AllocError>
     ensures { IfOk result (λ v. v.items ≡ p.first_words m.now whole.now) }
 {
     let mut words = vec![in alloc; 0; m.data_words as usize]?;

@@ -1,31 +1,20 @@
-use Rattle.std.proofs.Common.{◌≡◌, ◌++◌, ◌∷◌, [], List, ℕ, OnOk, subst, sym, ◌∙◌, ap}
-use Rattle.std.proofs.lemmas.List.{append-nil}
+use Rattle.std.proofs.Common.{◌++◌, ◌∷◌, [], List, ℕ, sym, ◌∙◌, ap}
+use Rattle.tta_list.proofs.Lists.{then_more}
+use Rattle.tta_list.proofs.Results.{onward}
+use Rattle.tta_hardware.specs.Signals.{Signal as Named}
 use Rattle.tta_rtl.specs.Cited.{Controls, GoalNow, EndsNow, Lands, Asks, Gives, Goes, NextPc, Puts, PutWord}
-use Rattle.tta_rtl.specs.Texts.{wires_text}
-use Rattle.tta_rtl.proofs.UnitWires.{wire_more}
+use Rattle.tta_rtl.specs.Texts.{wire_of, wires_text}
+use Rattle.tta_rtl.proofs.Texts.{wires_append}
 use Rattle.tta_rtl.proofs.control.push_control.Goals as goal
 
 pub returns : goal.returns
+unfolding wire_of
 returns c =
     let m = c.args.on.now.m.now in
     let old = c.args.out.now.items in
-    let s1 : c.push_controls.new.out.items ≡ old ++ wires_text m (Controls ∷ []) =
-    c.in_ok-push_controls.ensures ∙ wire_more m [] Controls old old (sym (append-nil old)) in
-    let s2 : c.push_goal.new.out.items ≡ old ++ wires_text m (Controls ∷ GoalNow ∷ []) =
-    c.in_ok-push_goal.ensures ∙ wire_more m (Controls ∷ []) GoalNow old c.push_controls.new.out.items s1 in
-    let s3 : c.push_ends.new.out.items ≡ old ++ wires_text m (Controls ∷ GoalNow ∷ EndsNow ∷ []) =
-    c.in_ok-push_ends.ensures ∙ wire_more m (Controls ∷ GoalNow ∷ []) EndsNow old c.push_goal.new.out.items s2 in
-    let s4 : c.push_lands.new.out.items ≡ old ++ wires_text m (Controls ∷ GoalNow ∷ EndsNow ∷ Lands ∷ []) =
-    c.in_ok-push_lands.ensures ∙ wire_more m (Controls ∷ GoalNow ∷ EndsNow ∷ []) Lands old c.push_ends.new.out.items s3 in
-    let s5 : c.push_asks.new.out.items ≡ old ++ wires_text m (Controls ∷ GoalNow ∷ EndsNow ∷ Lands ∷ Asks ∷ []) =
-    c.in_ok-push_asks.ensures ∙ wire_more m (Controls ∷ GoalNow ∷ EndsNow ∷ Lands ∷ []) Asks old c.push_lands.new.out.items s4 in
-    let s6 : c.push_gives.new.out.items ≡ old ++ wires_text m (Controls ∷ GoalNow ∷ EndsNow ∷ Lands ∷ Asks ∷ Gives ∷ []) =
-    c.in_ok-push_gives.ensures ∙ wire_more m (Controls ∷ GoalNow ∷ EndsNow ∷ Lands ∷ Asks ∷ []) Gives old c.push_asks.new.out.items s5 in
-    let s7 : c.push_goes.new.out.items ≡ old ++ wires_text m (Controls ∷ GoalNow ∷ EndsNow ∷ Lands ∷ Asks ∷ Gives ∷ Goes ∷ []) =
-    c.in_ok-push_goes.ensures ∙ wire_more m (Controls ∷ GoalNow ∷ EndsNow ∷ Lands ∷ Asks ∷ Gives ∷ []) Goes old c.push_gives.new.out.items s6 in
-    let s8 : c.push_next_pc.new.out.items ≡ old ++ wires_text m (Controls ∷ GoalNow ∷ EndsNow ∷ Lands ∷ Asks ∷ Gives ∷ Goes ∷ NextPc ∷ []) =
-    c.in_ok-push_next_pc.ensures ∙ wire_more m (Controls ∷ GoalNow ∷ EndsNow ∷ Lands ∷ Asks ∷ Gives ∷ Goes ∷ []) NextPc old c.push_goes.new.out.items s7 in
-    let s9 : c.push_puts.new.out.items ≡ old ++ wires_text m (Controls ∷ GoalNow ∷ EndsNow ∷ Lands ∷ Asks ∷ Gives ∷ Goes ∷ NextPc ∷ Puts ∷ []) =
-    c.in_ok-push_puts.ensures ∙ wire_more m (Controls ∷ GoalNow ∷ EndsNow ∷ Lands ∷ Asks ∷ Gives ∷ Goes ∷ NextPc ∷ []) Puts old c.push_next_pc.new.out.items s8 in
-    subst (λ (r : List ℕ). OnOk c.push_put.result (c.push_put.new.out.items ≡ r))
-    (wire_more m (Controls ∷ GoalNow ∷ EndsNow ∷ Lands ∷ Asks ∷ Gives ∷ Goes ∷ NextPc ∷ Puts ∷ []) PutWord old c.push_puts.new.out.items s9) c.push_put.ensures
+    let before : List Named = Controls ∷ GoalNow ∷ EndsNow ∷ Lands ∷ Asks ∷ Gives ∷ [] in
+    let after : List Named = NextPc ∷ Puts ∷ PutWord ∷ [] in
+    onward c.push_outcome.result (λ last.
+    then_more _ _ _ (wires_text m before) (wire_of m Goes ++ wires_text m after) c.in_ok-push_steering.ensures
+    (then_more _ _ _ (wire_of m Goes) (wires_text m after) c.in_ok-push_goes.ensures last)
+    ∙ ap (λ (t : List ℕ). old ++ t) (sym (wires_append m before (Goes ∷ after)))) c.push_outcome.ensures

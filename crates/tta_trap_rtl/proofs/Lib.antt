@@ -1,0 +1,4 @@
+mod Wires
+mod Registers
+mod Finds
+mod Modules

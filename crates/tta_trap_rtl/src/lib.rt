@@ -1,0 +1,15 @@
+//! The circuit of a machine with its code that tells the first fault, as a module of Verilog.
+#![tactic(auto)]
+
+mod becoming;
+mod fault;
+mod findings;
+mod lacks;
+mod late;
+mod names;
+mod pins;
+mod reads;
+mod watching;
+mod whole;
+
+pub use whole::write_trap;
