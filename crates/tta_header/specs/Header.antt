@@ -12,6 +12,7 @@ use Rattle.tta_rtl.specs.declared.rom.Rom.{Rom}
 use Rattle.tta_rtl.specs.declared.rom.Rom.TheVariants as rom
 use Rattle.tta_rtl.specs.CodeFile.{code_file}
 use Rattle.tta_rtl.specs.Module.{offers, rtl_of}
+use Rattle.tta_trap_rtl.specs.Module.{trap_rtl_of}
 
 -- ---- the lines
 
@@ -31,11 +32,12 @@ code_line words width = codes "// code: " ++ (decimal words ++ (codes " instruct
 unfoldable pub file_line : (size width : ℕ) → List ℕ
 file_line size width = codes "// code: " ++ (decimal size ++ (codes " words of " ++ (decimal width ++ codes " bits in code.hex\n")))
 
--- the ports that the module has
-unfoldable pub ports_line : (gives takes : Bool) → List ℕ
-ports_line gives takes =
-    codes "// ports: clk, reset, halted, cycle, pc" ++ ((if gives then codes ", out_valid, out_data, out_ready" else [])
-    ++ ((if takes then codes ", in_valid, in_data, in_ready" else []) ++ codes "\n"))
+-- the ports that the module has: that of faults where it tells them
+unfoldable pub ports_line : (faults gives takes : Bool) → List ℕ
+ports_line faults gives takes =
+    codes "// ports: clk, reset, halted, cycle, pc" ++ ((if faults then codes ", fault" else [])
+    ++ ((if gives then codes ", out_valid, out_data, out_ready" else [])
+    ++ ((if takes then codes ", in_valid, in_data, in_ready" else []) ++ codes "\n")))
 
 -- ---- above a text
 
@@ -48,15 +50,22 @@ image_lines m digest image whole =
 abbrev pub file_lines : Machine → (digest : List ℕ) → List ℕ
 file_lines m digest = machine_line digest ++ file_line (2 ^ m.control.address) (word_width m)
 
--- what a module is made of; one that takes its code from a file is made for any code
-abbrev pub source_lines : Machine → (digest : List ℕ) → Rom → (image : List ℕ) → Whole → List ℕ
-source_lines m digest rom.Text image whole = image_lines m digest image whole
-source_lines m digest rom.File image whole = file_lines m digest
+-- What a module is made of. One that takes its code from a file is made for any code, or where it tells faults, for any of so many
+-- instructions: past the last of them is a fault.
+abbrev pub source_lines : Machine → (digest : List ℕ) → Rom → (faults : Bool) → (image : List ℕ) → Whole → List ℕ
+source_lines m digest rom.Text faults image whole = image_lines m digest image whole
+source_lines m digest rom.File faults image whole =
+    file_lines m digest ++ (if faults then code_line (length whole.code.words) (word_width m) else [])
+
+-- a module, which tells faults or does not
+abbrev pub module_of : Units → Machine → Rom → (faults : Bool) → Whole → List ℕ
+module_of u m r faults whole = if faults then trap_rtl_of u m r whole else rtl_of u m r whole
 
 -- the circuit of a machine with code and data as a module, with what it is made of and its ports above it
-abbrev pub headed_rtl : Units → Machine → (digest : List ℕ) → Rom → (image : List ℕ) → Whole → List ℕ
-headed_rtl u m digest r image whole =
-    source_lines m digest r image whole ++ (ports_line (offers m Out) (offers m Take) ++ rtl_of u m r whole)
+abbrev pub headed_rtl : Units → Machine → (digest : List ℕ) → Rom → (faults : Bool) → (image : List ℕ) → Whole → List ℕ
+headed_rtl u m digest r faults image whole =
+    source_lines m digest r faults image whole
+    ++ (ports_line faults (offers m Out) (offers m Take) ++ module_of u m r faults whole)
 
 -- the file of the words of code, with what it is made of above them
 abbrev pub headed_file : Machine → (digest image : List ℕ) → Whole → List ℕ

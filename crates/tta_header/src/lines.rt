@@ -70,10 +70,16 @@ fn push_if(out: &mut Vec<u8>, test: bool, text: &[u8]) -> Result<(), AllocError>
 
 /// Puts the ports that the module has.
 #[tactic(auto, unfolding(crate::specs::Header::ports_line))]
-pub fn push_ports(out: &mut Vec<u8>, gives: bool, takes: bool) -> Result<(), AllocError>
-    ensures { OnOk result (out.new.items ≡ out.old.items ++ ports_line gives takes) }
+pub fn push_ports(
+    out: &mut Vec<u8>,
+    faults: bool,
+    gives: bool,
+    takes: bool,
+) -> Result<(), AllocError>
+    ensures { OnOk result (out.new.items ≡ out.old.items ++ ports_line faults gives takes) }
 {
     push_text(out, b"// ports: clk, reset, halted, cycle, pc")?;
+    push_if(out, faults, b", fault")?;
     push_if(out, gives, b", out_valid, out_data, out_ready")?;
     push_if(out, takes, b", in_valid, in_data, in_ready")?;
     push_text(out, b"\n")

@@ -3,18 +3,16 @@ use Rattle.std.specs.Prelude.{◌≡◌, ◌↔◌, ℕ, List, None}
 use Rattle.tta_inspect.specs.Cited.{World, Output, Units, Machine, first_outside, Whole, IsLegalWhole, IsBuilt, TellsImage, headed_file, headed_rtl, MachineFile, Status}
 use Rattle.tta_program.specs.Over as programs
 use Rattle.tta_program.specs.Program.{Program as Source}
-use Rattle.tta_rtl.specs.declared.rom.Rom.TheVariants as rom
 use Rattle.tta_inspect.specs.declared.view.CircuitView.{CircuitView}
-use Rattle.tta_inspect.specs.declared.view.CircuitView.TheVariants.{Module, ModuleOfFile, CodeFile}
+use Rattle.tta_inspect.specs.declared.view.CircuitView.TheVariants.{Module, CodeFile}
 use Rattle.tta_inspect.specs.declared.subject.Subject.{Subject}
 use Rattle.tta_inspect.specs.declared.subject.Subject.TheVariants.{Code, Program}
 use Rattle.tta_inspect.specs.Texts.{ShowsText, TextEndings}
 
--- the text of the circuit of a machine with code and data, of this image: a module with the words of the code in it, a module that takes
--- them from a file, or that file
+-- The text of the circuit of a machine with code and data, of this image: a module with the words of the code in it or in a file, which
+-- tells the first fault or does not; or that file.
 abbrev pub circuit_text : Units → CircuitView → MachineFile → Whole → (image : List ℕ) → List ℕ
-circuit_text u Module file whole image = headed_rtl u file.machine file.digest rom.Text image whole
-circuit_text u ModuleOfFile file whole image = headed_rtl u file.machine file.digest rom.File image whole
+circuit_text u (Module r faults) file whole image = headed_rtl u file.machine file.digest r faults image whole
 circuit_text u CodeFile file whole image = headed_file file.machine file.digest image whole
 
 -- a text is that of the circuit of a machine with code and data

@@ -1,5 +1,5 @@
 -- What the words of the command line ask for.
-use Rattle.std.specs.Prelude.{ℕ, List, [], ◌∷◌, length, map, Bool, false, ◌&&◌, ◌||◌, Option, Some, None, codes, if◌then◌else◌, is_some, option_map, option_and_then}
+use Rattle.std.specs.Prelude.{ℕ, List, [], ◌∷◌, length, map, Bool, true, false, ◌&&◌, ◌||◌, Option, Some, None, codes, if◌then◌else◌, is_some, option_map, option_and_then}
 use Rattle.std.specs.Str.{bytes_eq}
 use Rattle.std.specs.String.{string_bytes}
 use Rattle.tta_inspect.specs.Cited.{bound_of, cores_in, is_net}
@@ -9,7 +9,8 @@ use Rattle.tta_inspect.specs.declared.view.View.TheVariants.{Picture, Info, Cost
 use Rattle.tta_inspect.specs.declared.view.RunView.{RunView}
 use Rattle.tta_inspect.specs.declared.view.RunView.TheVariants.{Profile, Play, PlayAfter, Waves}
 use Rattle.tta_inspect.specs.declared.view.CircuitView.{CircuitView}
-use Rattle.tta_inspect.specs.declared.view.CircuitView.TheVariants.{Module, ModuleOfFile, CodeFile}
+use Rattle.tta_inspect.specs.declared.view.CircuitView.TheVariants.{Module, CodeFile}
+use Rattle.tta_rtl.specs.declared.rom.Rom.TheVariants as rom
 use Rattle.tta_inspect.specs.declared.view.StagesView.{StagesView}
 use Rattle.tta_inspect.specs.declared.view.StagesView.TheVariants.{Lines, Page}
 use Rattle.tta_inspect.specs.declared.request.Request.{Request as Asked}
@@ -91,7 +92,7 @@ is_cost word = bytes_eq word (codes "cost")
 abbrev pub pair_request : (word machine second : List ℕ) → Option Request
 pair_request word machine second =
     if is_stages word then Some (OfStages Lines machine second)
-    else if is_rtl word then Some (OfRtl Module machine second)
+    else if is_rtl word then Some (OfRtl (Module rom.Text false) machine second)
     else if is_picture word then Some (OfPicture machine second)
     else if is_info word then Some (OfInfo machine second)
     else if is_cost word then Some (OfCost machine second)
@@ -102,20 +103,39 @@ abbrev pub page_request : (machine program mark : List ℕ) → Option Request
 page_request machine program mark = if bytes_eq mark (codes "--html") then Some (OfStages Page machine program) else None
 
 -- the text of a circuit that a word behind its two files names
-abbrev pub rom_view_of : (mark : List ℕ) → Option CircuitView
-rom_view_of mark =
-    if bytes_eq mark (codes "rom=file") then Some ModuleOfFile else if bytes_eq mark (codes "rom=words") then Some CodeFile else None
+abbrev pub circuit_view_of : (mark : List ℕ) → Option CircuitView
+circuit_view_of mark =
+    if bytes_eq mark (codes "rom=file") then Some (Module rom.File false)
+    else if bytes_eq mark (codes "rom=words") then Some CodeFile
+    else if bytes_eq mark (codes "faults") then Some (Module rom.Text true)
+    else None
 
 -- the request of the name of the command that shows a circuit with a word after its two files
-abbrev pub rom_request : (machine subject mark : List ℕ) → Option Request
-rom_request machine subject mark = option_map (λ view. OfRtl view machine subject) (rom_view_of mark)
+abbrev pub mark_request : (machine subject mark : List ℕ) → Option Request
+mark_request machine subject mark = option_map (λ view. OfRtl view machine subject) (circuit_view_of mark)
+
+-- whether two words ask for a module that tells faults and takes its code from a file
+abbrev pub asks_for_both : (mark last : List ℕ) → Bool
+asks_for_both mark last = bytes_eq mark (codes "faults") && bytes_eq last (codes "rom=file")
+
+-- the same with two words after them
+abbrev pub marks_request : (machine subject mark last : List ℕ) → Option Request
+marks_request machine subject mark last =
+    if asks_for_both mark last then Some (OfRtl (Module rom.File true) machine subject) else None
 
 -- the request of the name of a command with three words after it
 abbrev pub three_request : (word machine second input : List ℕ) → Option Request
 three_request word machine second input =
     if is_stages word then page_request machine second input
-    else if is_rtl word then rom_request machine second input
+    else if is_rtl word then mark_request machine second input
     else prompt_request word machine second input None
+
+-- the request of the name of a command with four words after it
+abbrev pub four_request : (word machine second input last : List ℕ) → Option Request
+four_request word machine second input last =
+    if is_prompt word then prompt_request word machine second input (Some last)
+    else if is_rtl word then marks_request machine second input last
+    else run_request word machine second input last None
 
 -- whether words ask for the circuits of so many cores: `rtl net`, and how many words the queues have
 abbrev pub asks_for_net : (word kind depths : List ℕ) → (count : ℕ) → Bool
@@ -157,8 +177,7 @@ abbrev pub request_of : List (List ℕ) → Option Request
 request_of (word ∷ machine ∷ []) = option_map (λ view. OfMachine view machine) (view_of word)
 request_of (word ∷ machine ∷ second ∷ []) = pair_request word machine second
 request_of (word ∷ machine ∷ second ∷ input ∷ []) = three_request word machine second input
-request_of (word ∷ machine ∷ second ∷ input ∷ last ∷ []) =
-    if is_prompt word then prompt_request word machine second input (Some last) else run_request word machine second input last None
+request_of (word ∷ machine ∷ second ∷ input ∷ last ∷ []) = four_request word machine second input last
 request_of (word ∷ machine ∷ second ∷ input ∷ last ∷ stream ∷ []) = run_request word machine second input last (Some stream)
 request_of words = more_request words
 

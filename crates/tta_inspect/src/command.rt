@@ -168,7 +168,8 @@ fn carry_out<F: Files, L: Lines, S: Sink>(
 /// `rtl M IMG` outputs the circuit of that machine with the code and data of that image, as a module of
 /// Verilog; and `rtl M P` that with the code that `build` makes of that program, and its data. With the word
 /// `rom=file` behind it the module takes the words of the code from the file `code.hex`, which is what is
-/// output with `rom=words`.
+/// output with `rom=words`. With `faults`, which may stand before `rom=file`, the module tells the first
+/// fault and stops there.
 /// `rtl net DEPTHS LINKS M IMG IN ..` outputs the circuits of cores, three files for each, that are joined
 /// by queues as the links of the file LINKS say, with as many words in each queue as DEPTHS says.
 ///

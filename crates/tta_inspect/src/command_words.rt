@@ -1,10 +1,12 @@
 //! The words that name the commands of `show` and their views.
 
 ghost use Rattle.std.specs.Prelude.{◌≡◌};
-ghost use Rattle.tta_inspect.specs.Request.{is_cost, is_info, is_picture, is_prompt, is_rtl};
-ghost use Rattle.tta_inspect.specs.Request.{is_stages, is_view, rom_view_of, run_view_of, view_of};
+ghost use Rattle.tta_inspect.specs.Request.{asks_for_both, circuit_view_of, is_cost, is_info};
+ghost use Rattle.tta_inspect.specs.Request.{is_picture, is_prompt, is_rtl, is_stages, is_view};
+ghost use Rattle.tta_inspect.specs.Request.{run_view_of, view_of};
 
 use crate::view::{CircuitView, RunView, View};
+use tta_rtl::Rom;
 
 /// The view that a word names.
 pub fn view_of(word: &str) -> Option<View>
@@ -88,14 +90,30 @@ pub fn is_prompt(word: &str) -> bool
 }
 
 /// The text of a circuit that a word behind its two files names.
-pub fn rom_view_of(mark: &str) -> Option<CircuitView>
-    ensures { result ≡ rom_view_of mark.now }
+pub fn circuit_view_of(mark: &str) -> Option<CircuitView>
+    ensures { result ≡ circuit_view_of mark.now }
 {
     if mark == "rom=file" {
-        return Some(CircuitView::ModuleOfFile);
+        return Some(CircuitView::Module {
+            rom: Rom::File,
+            faults: false,
+        });
     }
     if mark == "rom=words" {
         return Some(CircuitView::CodeFile);
     }
+    if mark == "faults" {
+        return Some(CircuitView::Module {
+            rom: Rom::Text,
+            faults: true,
+        });
+    }
     None
+}
+
+/// Whether two words ask for a module that tells faults and takes its code from a file.
+pub fn asks_for_both(mark: &str, last: &str) -> bool
+    ensures { result ≡ asks_for_both mark.now last.now }
+{
+    mark == "faults" && last == "rom=file"
 }

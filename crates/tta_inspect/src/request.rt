@@ -3,12 +3,12 @@
 ghost use Rattle.std.specs.Prelude.{◌≡◌, ◌∷◌, [], map, option_map};
 ghost use Rattle.std.specs.String.{string_bytes};
 ghost use Rattle.tta_inspect.specs.Request.{asked, is_named, page_request, pair_request};
-ghost use Rattle.tta_inspect.specs.Request.{prompt_request, request_of, rom_request, run_request};
-ghost use Rattle.tta_inspect.specs.Request.{three_request};
+ghost use Rattle.tta_inspect.specs.Request.{four_request, mark_request, marks_request, prompt_request};
+ghost use Rattle.tta_inspect.specs.Request.{request_of, run_request, three_request};
 
 use crate::command_words::{
-    is_cost, is_info, is_picture, is_prompt, is_rtl, is_stages, is_view, rom_view_of, run_view_of,
-    view_of,
+    asks_for_both, circuit_view_of, is_cost, is_info, is_picture, is_prompt, is_rtl, is_stages,
+    is_view, run_view_of, view_of,
 };
 use crate::more::of_more;
 use crate::names::{
@@ -17,6 +17,7 @@ use crate::names::{
 };
 use crate::view::{CircuitView, StagesView};
 use tta_load::bound_of;
+use tta_rtl::Rom;
 
 /// What is asked for: a view of a machine, what is told of an image for a machine, the picture of such
 /// code or of that of a program, a view of a run of it, a session at a prompt over a run of code, a view
@@ -111,10 +112,10 @@ fn of_page<'w>(machine: &'w str, program: &'w str, mark: &str) -> Option<Request
 }
 
 /// The request of the name of the command that shows a circuit, with a word after its two files.
-fn of_rom<'w>(machine: &'w str, subject: &'w str, mark: &str) -> Option<Request<'w>>
-    ensures { option_map asked result ≡ rom_request machine.now subject.now mark.now }
+fn of_mark<'w>(machine: &'w str, subject: &'w str, mark: &str) -> Option<Request<'w>>
+    ensures { option_map asked result ≡ mark_request machine.now subject.now mark.now }
 {
-    let view = rom_view_of(mark)?;
+    let view = circuit_view_of(mark)?;
     Some(Request::Rtl(RtlRequest {
         view,
         machine,
@@ -122,8 +123,26 @@ fn of_rom<'w>(machine: &'w str, subject: &'w str, mark: &str) -> Option<Request<
     }))
 }
 
-/// The request of four words: a page of stages, a circuit whose code stands in a file, or a session at a
-/// prompt.
+/// The same with two words after them.
+fn of_marks<'w>(machine: &'w str, subject: &'w str, mark: &str, last: &str) -> Option<Request<'w>>
+    ensures { option_map asked result
+        ≡ marks_request machine.now subject.now mark.now last.now }
+{
+    if !asks_for_both(mark, last) {
+        return None;
+    }
+    Some(Request::Rtl(RtlRequest {
+        view: CircuitView::Module {
+            rom: Rom::File,
+            faults: true,
+        },
+        machine,
+        subject,
+    }))
+}
+
+/// The request of four words: a page of stages, a circuit with a word that says how it is made, or a
+/// session at a prompt.
 fn of_four<'w>(word: &str, machine: &'w str, second: &'w str, input: &'w str) -> Option<Request<'w>>
     ensures { option_map asked result
         ≡ three_request word.now machine.now second.now input.now }
@@ -132,12 +151,13 @@ fn of_four<'w>(word: &str, machine: &'w str, second: &'w str, input: &'w str) ->
         return of_page(machine, second, input);
     }
     if is_rtl(word) {
-        return of_rom(machine, second, input);
+        return of_mark(machine, second, input);
     }
     of_prompt(word, machine, second, input, None)
 }
 
-/// The request of five words: a session at a prompt with an input, or a view of a run without one.
+/// The request of five words: a session at a prompt with an input, a circuit with two words that say how
+/// it is made, or a view of a run without an input.
 fn of_five<'w>(
     word: &str,
     machine: &'w str,
@@ -145,11 +165,14 @@ fn of_five<'w>(
     input: &'w str,
     last: &'w str,
 ) -> Option<Request<'w>>
-    ensures { option_map asked result ≡ request_of
-        (word.now ∷ machine.now ∷ second.now ∷ input.now ∷ last.now ∷ []) }
+    ensures { option_map asked result
+        ≡ four_request word.now machine.now second.now input.now last.now }
 {
     if is_prompt(word) {
         return of_prompt(word, machine, second, input, Some(last));
+    }
+    if is_rtl(word) {
+        return of_marks(machine, second, input, last);
     }
     of_run(word, machine, second, input, last, None)
 }
@@ -167,7 +190,10 @@ fn of_pair<'w>(word: &str, machine: &'w str, second: &'w str) -> Option<Request<
     }
     if is_rtl(word) {
         return Some(Request::Rtl(RtlRequest {
-            view: CircuitView::Module,
+            view: CircuitView::Module {
+                rom: Rom::Text,
+                faults: false,
+            },
             machine,
             subject: second,
         }));

@@ -1,5 +1,7 @@
 //! What is shown of a machine, of code for it, or of a run of such code.
 
+use tta_rtl::Rom;
+
 /// A kind of text of a machine, or of code with data for it.
 #[derive(Clone, Copy, Debug, PartialEq, Eq)]
 pub enum View {
@@ -21,13 +23,11 @@ pub enum StagesView {
 }
 
 /// A kind of text of the circuit of a machine with code.
-#[derive(Clone, Copy, Debug, PartialEq, Eq)]
+#[derive(Clone, Copy)]
 pub enum CircuitView {
-    /// A module with the words of the code in it.
-    Module,
-    /// A module whose memory of code is filled from a file.
-    ModuleOfFile,
-    /// That file.
+    /// A module, with the words of the code in it or in a file, which tells the first fault or does not.
+    Module { rom: Rom, faults: bool },
+    /// The file of the words of the code.
     CodeFile,
 }
 

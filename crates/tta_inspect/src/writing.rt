@@ -25,7 +25,6 @@ use tta_load::{MachineFile, Status, put_made};
 use tta_ops::UnitSet;
 use tta_ports::{Files, Sink};
 use tta_program::Program;
-use tta_rtl::Rom;
 
 /// A text of the circuit of a machine with code and data.
 fn write_view(
@@ -45,8 +44,7 @@ fn write_view(
         whole,
     };
     match view {
-        CircuitView::Module => write_headed_rtl(alloc, units, Rom::Text, &of),
-        CircuitView::ModuleOfFile => write_headed_rtl(alloc, units, Rom::File, &of),
+        CircuitView::Module { rom, faults } => write_headed_rtl(alloc, units, rom, faults, &of),
         CircuitView::CodeFile => write_headed_file(alloc, &of),
     }
 }

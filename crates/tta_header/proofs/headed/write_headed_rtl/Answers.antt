@@ -2,8 +2,8 @@ use Rattle.std.proofs.Common.{◌≡◌, ℕ, List, [], ◌++◌, ap, ◌∙◌}
 use Rattle.tta_list.proofs.Lists.{then_more}
 use Rattle.tta_ops.specs.Set.{stated}
 use Rattle.tta_arch.specs.declared.parts.Op.TheVariants.{Out, Take}
-use Rattle.tta_rtl.specs.Module.{offers, rtl_of}
-use Rattle.tta_header.specs.Header.{ports_line, source_lines}
+use Rattle.tta_rtl.specs.Module.{offers}
+use Rattle.tta_header.specs.Header.{module_of, ports_line, source_lines}
 use Rattle.tta_header.proofs.headed.write_headed_rtl.Goals as goal
 
 pub returns : goal.returns
@@ -12,9 +12,9 @@ returns g c =
     let m = c.args.of.now.m.now in
     let whole = c.args.of.now.whole.now in
     let image = c.in_ok-image.image.items in
-    let source : List ℕ → List ℕ = λ i. source_lines m c.args.of.now.digest.now c.args.rom i whole in
-    let ports = ports_line (offers m Out) (offers m Take) in
-    let rtl = rtl_of U m c.args.rom whole in
+    let source : List ℕ → List ℕ = λ i. source_lines m c.args.of.now.digest.now c.args.rom c.args.faults i whole in
+    let ports = ports_line c.args.faults (offers m Out) (offers m Take) in
+    let rtl = module_of U m c.args.rom c.args.faults whole in
     let first : c.push_source_lines.new.out.items ≡ [] ++ source image =
     c.in_ok-push_source_lines.ensures ∙ ap (λ (o : List ℕ). o ++ source c.as_slice.result.now) c.new-out.ensures.items
     ∙ ap source c.as_slice.ensures.value in
