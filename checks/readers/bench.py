@@ -16,6 +16,16 @@ class Pins:
         self.taken, self.offers = self.taken + 1, False
 
 
+def goes_on(circuit, pins, shown, clock):
+    """Whether a core that tells a fault tells another one, makes a cycle or lets a word pass at one of the clocks after that."""
+    for _ in range(4):
+        clock()
+        now, clock = circuit.shows(pins.given(circuit, 0))
+        if now["fault"] != shown["fault"] or any(now.get(name) for name in ("cycle", "halted", "in_ready", "out_valid")):
+            return True
+    return False
+
+
 def ran(circuit, data, bound, stream, pauses):
     """The lines of a run of at most so many cycles, with these words in the data space and this input, and the number of clocks."""
     by, out, cycles, clocks = circuit.by, [], 0, 0
@@ -27,8 +37,9 @@ def ran(circuit, data, bound, stream, pauses):
         given = pins.given(circuit, 0)
         shown, clock = circuit.shows(given)
         asks, puts = shown.get("in_ready"), shown.get("out_valid") and given["out_ready"]
-        if shown["halted"] or cycles == bound or asks and pins.taken == len(stream):
-            out.append("halted" if shown["halted"] else "running" if cycles == bound else "waiting")
+        fault = shown.get("fault")
+        if shown["halted"] or cycles == bound or fault or asks and pins.taken == len(stream):
+            out.append("halted" if shown["halted"] else "running" if cycles == bound else f"fault {fault}" if fault else "waiting")
             break
         takes = asks and given["in_valid"]
         if (takes or puts) and not shown["cycle"]:
@@ -40,5 +51,7 @@ def ran(circuit, data, bound, stream, pauses):
         clock()
         if takes:
             pins.take()
+    if out[-1].startswith("fault") and goes_on(circuit, pins, shown, clock):
+        out.append("the core goes on after a fault")
     out += [f"mem {k} {word}" for k, word in enumerate(circuit.memories["data"][:len(data)]) if word]
     return [*out, f"cycles {cycles}"], clocks
