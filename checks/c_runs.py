@@ -1,4 +1,4 @@
-"""What checks/c and checks/outside/csmith share: a program of C on the host, its three-address code by `exec`, and images of it by `run`."""
+"""What checks/random/c and checks/outside/csmith share: a program of C on the host, its three-address code by `exec`, and images of it by `run`."""
 import os
 import platform
 import shutil

@@ -109,7 +109,7 @@ def content(kind, words):
 
 def all_cases():
     """All cases, by kind and name."""
-    for kind in sorted(os.listdir(CASES)):
+    for kind in sorted(entry.name for entry in os.scandir(CASES) if entry.is_dir()):
         for name in sorted(os.listdir(os.path.join(CASES, kind))):
             if name.endswith(".case"):
                 reader = Reader(f"{kind}/{name[:-5]}")

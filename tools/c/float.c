@@ -1,5 +1,5 @@
 /* Floating point for machines that have none: single and double precision as IEEE 754 has them, rounded to the nearest, to even where two are as
-   near. It is linked to programs that need it; checks/c compares it with the host's. */
+   near. It is linked to programs that need it; checks/random/c compares it with the host's. */
 #include <stdint.h>
 
 static int LEAD32(uint32_t a) { return __builtin_clz(a); }

@@ -1,7 +1,7 @@
 """Which clang and LLVM are used: the newest version that is there and is taken, or the one that TTA_LLVM asks for.
 
 Debian names the programs of a version with its number (clang-16); programs without a number are asked for theirs, where no numbered ones
-are there. The versions from OLDEST to NEWEST are taken; `checks/c --versions` tries each of them that is there (14, 15, 16, 19 and 22 of Debian were).
+are there. The versions from OLDEST to NEWEST are taken; `checks/random/c --versions` tries each of them that is there (14, 15, 16, 19 and 22 of Debian were).
 Others are refused, since their text may have what the reader does not know."""
 import os
 import re
