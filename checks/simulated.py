@@ -177,8 +177,8 @@ class Pair:
         return f"after a reset, {first_difference(found, wanted)}" if found != wanted else None
 
 
-def compiled_pair(by):
-    """A pair of a machine and a compiled program that are made by chance, or None."""
+def compiled_pair(by, kind=Pair):
+    """A pair, of some kind, of a machine and a compiled program that are made by chance, or None."""
     text = machine_text(by).encode()
     size = space_of(text)
     write("M", text)
@@ -186,11 +186,11 @@ def compiled_pair(by):
     if call(PROGRAM, "build", "M", "P", "IMG")[0]:
         return None
     by_chance.given_words(by, size)
-    return Pair(size, "IN", "STREAM", COMPILED_BOUND, True)
+    return kind(size, "IN", "STREAM", COMPILED_BOUND, True)
 
 
-def code_pair(by):
-    """A pair of a machine and code that are made by chance, or None."""
+def code_pair(by, kind=Pair):
+    """A pair, of some kind, of a machine and code that are made by chance, or None."""
     text = by_chance.machine_text(by).encode()
     write("M", text)
     m = answer(machine, text)
@@ -200,4 +200,4 @@ def code_pair(by):
     if call(PROGRAM, "asm", "M", "A", "IMG")[0]:
         return None
     by_chance.given_words(by, m.spaces["data"])
-    return Pair(m.spaces["data"], "IN", "STREAM", by.choice(by_chance.BOUNDS), False)
+    return kind(m.spaces["data"], "IN", "STREAM", by.choice(by_chance.BOUNDS), False)
