@@ -15,7 +15,8 @@ use Rattle.tta_board.proofs.Going.{places_apart}
 use Rattle.tta_board.proofs.Entering.{quiet}
 use Rattle.tta_board.proofs.Passing as passing
 use Rattle.tta_board.proofs.Making as making
-use Rattle.tta_board.proofs.Standing.{stands_too, same_waits}
+use Rattle.tta_hardware.proofs.Still.{stands_too}
+use Rattle.tta_board.proofs.Standing.{same_waits}
 
 module _ (u : Units) (cores : List Core) (feeds : List (Option ℕ)) (memories : ℕ → List ℕ) (k : ℕ → ℕ) (given came : ℕ → List ℕ)
     (b : Board) (i : Inputs) (joined : List (Joined State)) (all : AllByRecursion IsCore cores)

@@ -17,7 +17,8 @@ use Rattle.tta_board.specs.Board.{Board, Inputs, lines, pins_of, AreWired, core_
 use Rattle.tta_board.specs.Laws.{StandsAmong, StandForCores, AreFine}
 use Rattle.tta_board.proofs.Entering.{halts}
 use Rattle.tta_board.proofs.Passing as passing
-use Rattle.tta_board.proofs.Standing.{stands_too, fault_goes}
+use Rattle.tta_hardware.proofs.Still.{stands_too}
+use Rattle.tta_board.proofs.Standing.{fault_goes}
 
 module _ (u : Units) (cores : List Core) (feeds : List (Option ℕ)) (memories : ℕ → List ℕ) (k : ℕ → ℕ) (came : ℕ → List ℕ) (b : Board)
     (i : Inputs) (joined : List (Joined State)) (all : AllByRecursion IsCore cores) (wired : AreWired u cores feeds memories k b i)

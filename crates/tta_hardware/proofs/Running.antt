@@ -9,14 +9,15 @@ use Rattle.tta_hardware.specs.Cited.{Units, Machine, IsMachine, KeptPort, IsLega
 use Rattle.tta_code.specs.declared.code.Code.{Code as Program}
 use Rattle.tta_hardware.specs.Fields.{word_of}
 use Rattle.tta_hardware.specs.Signals.{Store, same_signal, same_store, Code, Data, Frame, Signal as Named, Pc, HasHalted, Underway, Goal, Ends, Keeps, IsDue, Due, HasBegun, Raw, IsInside, Asks, IsOffered, IsReady, IsReset, Whole, Gives, Goes, Puts, PutWord}
-use Rattle.tta_hardware.specs.Wires.{longest, loads}
+use Rattle.tta_hardware.specs.Wires.{longest}
 use Rattle.tta_hardware.specs.Stands.{Hardware, fresh_in, StandsFor, IsSettled, is_halted}
 use Rattle.tta_hardware.specs.Theorem.{is_fault, is_waiting, IsFed, HasStepped}
 use Rattle.tta_hardware.specs.Hardware.{circuit_of}
-use Rattle.tta_hardware.specs.Runs.{held_after, signals_after, cycles_after, taken_after, put_after, hardware, AreClocksFrom, HasRunFrom, IsStill, CircuitRuns, StandsStill, start_over, cyc_over, HoldsWords, BeginsAnew, HoldsCode}
+use Rattle.tta_hardware.specs.Runs.{held_after, signals_after, cycles_after, taken_after, put_after, hardware, AreClocksFrom, HasRunFrom, IsStill, CircuitRuns, StandsStill, start_over, cyc_over, HoldsWords, BeginsAnew}
 use Rattle.tta_hardware.proofs.Chained.{set_bit, going}
 use Rattle.tta_hardware.proofs.Fetching.{low, fetched_at}
-use Rattle.tta_hardware.proofs.Fresh.{same_fresh}
+use Rattle.tta_hardware.proofs.Still.{still_stands}
+use Rattle.tta_hardware.proofs.Holding.{powered_holds}
 use Rattle.tta_hardware.proofs.Stepping.{one_clock}
 use Rattle.tta_hardware.proofs.Circuits.{is_settled, has_clocked, has_stored, words_stay, reset_is, goes_not, pc_begins, whole_begins, halted_begins, underway_begins, is_due_begins, data_stays, frame_stays, rom_stays}
 
@@ -119,42 +120,6 @@ module _ (u : Units) (m : Machine) (code : Program) (had memory frame input : Li
     none unit delay less some false is = refl
 
 -- ---- a clock that carries nothing out
-
--- what stands for a state still does
-still_stands : (m : Machine) (code : Program) (h g : Hardware) (s : State) → ((n : Named) → g.words n ≡ h.words n)
-    → g.memories Data ≡ h.memories Data → g.memories Frame ≡ h.memories Frame
-    → g.memories Code ≡ h.memories Code → StandsFor m code h s → StandsFor m code g s
-still_stands m code h g s words memory frame rom stands = record {
-  words = λ p w can has is. words (Keeps p) ∙ stands.words p w can has is;
-  ports = λ unit w less is. fresh unit 1 (Keeps (KeptPort unit)) ∙ stands.ports unit w less is;
-  coming = λ unit delay less some.
-      ap (λ n. if nat_lt delay (longest m unit) && is_set n then Some (fresh_in m g.words unit (delay + 1) (g.words (Due unit delay)))
-      else None) (words (IsDue unit delay))
-      ∙ ap (λ n. if nat_lt delay (longest m unit) && is_set (h.words (IsDue unit delay)) then Some n else None)
-      (fresh unit (delay + 1) (Due unit delay))
-      ∙ stands.coming unit delay less some;
-  pending = record {
-    soon = stands.pending.soon;
-    underway = λ delay some most. ap is_set (words (Underway delay)) ∙ stands.pending.underway delay some most;
-    ends = λ p is. ap is_set (words Ends) ∙ stands.pending.ends p is;
-    goal = λ p is goes_on. words Goal ∙ stands.pending.goal p is goes_on;
-  };
-  pc = words Pc ∙ stands.pc;
-  whole = λ i at. words Whole ∙ stands.whole i at;
-  halted = ap is_set (words HasHalted) ∙ stands.halted;
-  rom = rom ∙ stands.rom;
-  spaces = record {
-    memory = memory ∙ stands.spaces.memory;
-    frame = frame ∙ stands.spaces.frame;
-    memory_size = stands.spaces.memory_size;
-    frame_size = stands.spaces.frame_size;
-  };
-} where
-  fresh : (unit latency : ℕ) (n : Named) → fresh_in m g.words unit latency (g.words n) ≡ fresh_in m h.words unit latency (h.words n)
-  fresh unit latency n =
-      ap (fresh_in m g.words unit latency) (words n)
-      ∙ same_fresh g.words h.words unit (λ op. words (HasBegun unit op)) (λ op. words (Raw unit op)) (λ op. words (IsInside unit op))
-      (loads m unit latency) (h.words n)
 
 -- ---- every clock
 
@@ -313,17 +278,6 @@ pub begins_anew : BeginsAnew
 begins_anew u m code first memory frame input h inputs rules legal holds fine last clocks t less =
     every u m code first memory frame input h inputs rules legal holds fine last clocks t less
 
--- what a circuit holds when the power comes
-powered_holds : (m : Machine) (code : Program) (memory : List ℕ) (powers : Named → ℕ) → length memory ≡ m.data_words
-    → HoldsWords m code memory (replicate m.frame_words 0) (powered same_signal same_store (circuit_of m code memory) powers)
-powered_holds m code memory powers sized = record {
-  rom = refl;
-  data_has = refl;
-  frame_has = refl;
-  memory_size = sized;
-  frame_size = length-replicate m.frame_words 0;
-}
-
 pub circuit_runs : CircuitRuns
 circuit_runs u m code memory input powers inputs rules legal sized fine last clocks t less =
     every u m code memory memory (replicate m.frame_words 0) input (powered same_signal same_store (circuit_of m code memory) powers) inputs
@@ -333,20 +287,3 @@ pub stands_still : StandsStill
 stands_still u m code memory input powers inputs rules legal sized fine last clocks t less stops =
     still u m code memory memory (replicate m.frame_words 0) input (powered same_signal same_store (circuit_of m code memory) powers) inputs
     rules legal (powered_holds m code memory powers sized) fine last clocks t less stops
-
--- a word that is stored or not leaves as many words
-store_sized : (b : Bool) (xs : List ℕ) (k x : ℕ) → length (if b then slice_set xs k x else xs) ≡ length xs
-store_sized true xs k x = length-set xs k x
-store_sized false xs k x = refl
-
-pub holds_code : HoldsCode
-holds_code u m code memory powers inputs sized zero = powered_holds m code memory powers sized
-holds_code u m code memory powers inputs sized (suc t) =
-    let old = holds_code u m code memory powers inputs sized t in
-    let stored = has_stored u m code memory (hardware u m code memory powers inputs t) (inputs t) in record {
-      rom = stored.rom ∙ old.rom;
-      data_has = refl;
-      frame_has = refl;
-      memory_size = ap length stored.memory ∙ store_sized _ _ _ _ ∙ old.memory_size;
-      frame_size = ap length stored.frame ∙ store_sized _ _ _ _ ∙ old.frame_size;
-    }

@@ -26,7 +26,8 @@ use Rattle.tta_board.specs.Laws.{StandsAmong, StandForCores, AreFine}
 use Rattle.tta_board.proofs.Entering.{enters, halts}
 use Rattle.tta_board.proofs.Making as making
 use Rattle.tta_board.proofs.Passing as passing
-use Rattle.tta_board.proofs.Standing.{stands_too, same_waits}
+use Rattle.tta_hardware.proofs.Still.{stands_too}
+use Rattle.tta_board.proofs.Standing.{same_waits}
 use Rattle.tta_progress.specs.Moves.{has_room, puts_between, can_go, has_word_to_put}
 use Rattle.tta_progress.specs.Laws.{BoardMoves}
 use Rattle.tta_progress.proofs.Telling.{Tells, tells}

@@ -10,6 +10,7 @@ use Rattle.tta_code.specs.declared.code.Code.{Code as Program}
 use Rattle.tta_hardware.specs.Signals.{Signal as Named}
 use Rattle.tta_hardware.specs.Theorem.{is_waiting, HasStepped}
 use Rattle.tta_hardware.specs.Runs.{taken_after, put_after}
+use Rattle.tta_hardware.proofs.Still.{still_stands}
 use Rattle.tta_hardware.proofs.Stepping.{one_clock}
 use Rattle.tta_trap.specs.Trap.{trap_circuit}
 use Rattle.tta_trap.specs.Tells.{Knows, fault_number, TellsFaults, KnowsOn}
@@ -18,7 +19,7 @@ use Rattle.tta_trap.proofs.Comes.{comes, stays_halted}
 use Rattle.tta_trap.proofs.Settled.{free, free_settled, free_watched, is_settled, is_watched, goes_is, reset_is}
 use Rattle.tta_trap.proofs.Clocked.{has_clocked, has_watched, has_stored, words_stay, data_stays, frame_stays}
 use Rattle.tta_trap.proofs.Waited.{free_goes, puts_stop}
-use Rattle.tta_trap.proofs.Lasting.{still_stands, still_knows}
+use Rattle.tta_trap.proofs.Lasting.{still_knows}
 
 -- what is left of what was left
 left_taken : (input : List ℕ) (k : ℕ) (b : Bool) → left b (drop k input) ≡ drop (k + bit b) input

@@ -27,7 +27,7 @@ use Rattle.tta_board.specs.Laws.{StandsAmong, AreSpaces, NeverFault, HasComeBy, 
 use Rattle.tta_board.proofs.Entering.{enters as given_in}
 use Rattle.tta_board.proofs.Making as making
 use Rattle.tta_board.proofs.Running.{board_runs, fine_so_far}
-use Rattle.tta_board.proofs.Standing.{stands_too}
+use Rattle.tta_hardware.proofs.Still.{stands_too}
 use Rattle.tta_wiring.specs.Signals.{Joint, Outside, Offers, Offer, Valid, Word, Room, Rooms, feeder_at}
 use Rattle.tta_wired.specs.Joining.{AreLinked, AreNet, AreNetClocks, is_open, passes, passed_by, enters, entered_by, HaveEntered}
 use Rattle.tta_wired.specs.Laws.{HasRunAsNet, NetRuns}

@@ -1,4 +1,4 @@
-use Rattle.tta_hardware.proofs.Running.{holds_code}
+use Rattle.tta_hardware.proofs.Holding.{holds_code}
 use Rattle.tta_hardware.proofs.laws.holds_code.Goals as goal
 
 pub returns : goal.returns
