@@ -50,20 +50,19 @@ store_itself Code = refl
 store_itself Data = refl
 store_itself Frame = refl
 
-tells_store : TellsApart same_store
+pub tells_store : TellsApart same_store
 tells_store = record { is = store_is; itself = store_itself }
 
 -- ---- the circuit
 
-module _ (m : Machine) (code : Program) (memory : List ℕ) (powers : Named → ℕ) (legal : IsLegalCode m code)
-    (words : AllByRecursion (λ w. w < 2 ^ 32) memory) (narrow : (n : Named) → powers n < 2 ^ signal_width m n) where
-  begins : IsWithin (signal_width m) (store_width m) (powered same_signal same_store (circuit_of m code memory) powers)
-  begins = record { words = narrow; memories = at } where
-    at : (s : Store) (k : ℕ)
-        → slice_index ((powered same_signal same_store (circuit_of m code memory) powers).memories s) k < 2 ^ store_width m s
-    at Code k = small_at (2 ^ word_width m) (map (word_of m) code.words) k (pow_pos (word_width m)) (narrow_code m code.words legal.words)
-    at Data k = small_at (2 ^ 32) memory k (pow_pos 32) words
-    at Frame k = small_at (2 ^ 32) (replicate m.frame_words 0) k (pow_pos 32) (zeros m.frame_words)
+-- the words that memories begin with are narrow
+pub stores_narrow : (m : Machine) (code : Program) (memory : List ℕ) (powers : Named → ℕ) → IsLegalCode m code
+    → AllByRecursion (λ w. w < 2 ^ 32) memory → (s : Store) (k : ℕ)
+    → slice_index ((powered same_signal same_store (circuit_of m code memory) powers).memories s) k < 2 ^ store_width m s
+stores_narrow m code memory powers legal words Code k =
+    small_at (2 ^ word_width m) (map (word_of m) code.words) k (pow_pos (word_width m)) (narrow_code m code.words legal.words)
+stores_narrow m code memory powers legal words Data k = small_at (2 ^ 32) memory k (pow_pos 32) words
+stores_narrow m code memory powers legal words Frame k = small_at (2 ^ 32) (replicate m.frame_words 0) k (pow_pos 32) (zeros m.frame_words)
 
 -- an input has the width of its word
 fed : (m : Machine) (words : Named → ℕ) → AreInputs words → (n : Named)
@@ -78,4 +77,4 @@ pub words_stay : WordsStay
 words_stay u m code memory powers inputs rules legal words narrow are t =
     stays_within Named Store same_signal tells same_store tells_store (signal_width m) (store_width m) u (circuit_of m code memory)
     (powered same_signal same_store (circuit_of m code memory) powers) inputs (plain m rules code memory)
-    (begins m code memory powers legal words narrow) (λ t n is. fed m (inputs t) (are t) n is) t
+    (record { words = narrow; memories = stores_narrow m code memory powers legal words }) (λ t n is. fed m (inputs t) (are t) n is) t

@@ -13,7 +13,7 @@ pub use Rattle.tta_code.specs.declared.code.Code.{Code}
 pub use Rattle.tta_hardware.specs.Hardware.{circuit_with, code_words}
 pub use Rattle.tta_hardware.specs.Images.{ShowsRun}
 pub use Rattle.tta_hardware.specs.Runs.{AreClocks, IsStill, cycles_at, held_at, put_at, signals_at, taken_at}
-pub use Rattle.tta_hardware.specs.Signals.{Asks, Data, Gives, Goes, HasHalted, IsOffered, IsReady, IsReset, Offer, PutWord, Puts, Store}
+pub use Rattle.tta_hardware.specs.Signals.{Asks, Data, FaultNow, Gives, Goes, HasHalted, IsOffered, IsReady, IsReset, Offer, PutWord, Puts, Store, Watches}
 pub use Rattle.tta_hardware.specs.Stands.{is_halted}
 pub use Rattle.tta_hardware.specs.Theorem.{is_fault}
 pub use Rattle.tta_hardware.specs.Words.{image_words}
@@ -22,3 +22,4 @@ pub use Rattle.tta_list.specs.Laid.{over}
 pub use Rattle.tta_list.specs.Prefix.{IsPrefixOf}
 pub use Rattle.tta_ops.specs.Units.{Units}
 pub use Rattle.tta_program.specs.Program.{Program, step_count}
+pub use Rattle.tta_trap.specs.Trap.{trap_with}

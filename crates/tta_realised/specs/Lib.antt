@@ -1,3 +1,4 @@
 pub mod Cited
 pub mod Realised
 pub mod Laws
+pub mod Faultless

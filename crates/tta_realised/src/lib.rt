@@ -3,4 +3,4 @@
 
 mod laws;
 
-pub use laws::{built_does, circuit_does, image_does};
+pub use laws::{built_does, built_tells_none, circuit_does, circuit_tells_none, image_does};

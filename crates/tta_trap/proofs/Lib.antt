@@ -29,3 +29,4 @@ pub mod Telling
 pub mod Knowing
 pub mod Onward
 pub mod Rows
+mod Staying

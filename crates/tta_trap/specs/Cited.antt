@@ -6,6 +6,7 @@ pub use Rattle.tta_arch.specs.Rules.{IsMachine}
 pub use Rattle.tta_arch.specs.declared.ends.Source.{Source}
 pub use Rattle.tta_circuit.specs.Circuit.{Below, Both, Circuit, Const, Either, Equal, Not, Register, Select, Signal, Slice, Wire}
 pub use Rattle.tta_circuit.specs.Closed.{IsClosed, are_apart, signals_of}
+pub use Rattle.tta_circuit.specs.Laws.{IsWithin}
 pub use Rattle.tta_circuit.specs.Meaning.{is_set, powered, value}
 pub use Rattle.tta_circuit.specs.Order.{is_ordered}
 pub use Rattle.tta_circuit.specs.Plain.{IsPlain}
@@ -17,10 +18,11 @@ pub use Rattle.tta_hardware.specs.Hardware.{bus_wires, circuit_with, code_words,
 pub use Rattle.tta_hardware.specs.Order.{rank}
 pub use Rattle.tta_hardware.specs.Pins.{in_ready, out_valid}
 pub use Rattle.tta_hardware.specs.Registers.{longs, register}
-pub use Rattle.tta_hardware.specs.Runs.{AreClocksFrom, HasRunFrom, HoldsWords, cyc_over, cycles_after, held_after, signals_after, start_over}
+pub use Rattle.tta_hardware.specs.Runs.{AreClocksFrom, HasRunFrom, HoldsWords, cyc_over, cycles_after, held_after, held_at, signals_after, signals_at, start_over}
 pub use Rattle.tta_hardware.specs.Signals.{Acts, Asks, Clashes, Controls, DestOf, EndsNow, Expression, FaultNow, Fetched, Gives, Goes, GoalNow, GuardOf, HasHalted, HasWord, IsOffered, IsPast, IsReady, IsReset, IsShort, LacksOperand, LacksPort, LacksRegister, Lands, NextPc, Pc, PutWord, Puts, SourceOf, Starts, Store, Underway, Watch, Watches, same_signal, same_store}
 pub use Rattle.tta_hardware.specs.Sized.{signal_width, store_width}
 pub use Rattle.tta_hardware.specs.Stands.{Hardware, HasClocked, IsSettled, StandsFor, has_place, is_halted, is_written}
 pub use Rattle.tta_hardware.specs.Theorem.{IsFed, is_fault}
 pub use Rattle.tta_hardware.specs.Wires.{begins, is_coming, longest, made_of, never, ops_of, reached}
+pub use Rattle.tta_hardware.specs.Within.{AreInputs}
 pub use Rattle.tta_ops.specs.Units.{Units}

@@ -5,4 +5,5 @@ pub mod Trap
 pub mod Tells
 pub mod Theorem
 pub mod Sized
+pub mod Within
 pub mod Pins

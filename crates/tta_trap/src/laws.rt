@@ -5,6 +5,7 @@ ghost use Rattle.tta_trap.specs.Tells.{KnowsOn, TellsFaults};
 ghost use Rattle.tta_trap.specs.Theorem.{TrapRuns, TrapStandsStill, TrapStays};
 ghost use Rattle.tta_trap.specs.Sized.{TrapIsClosed, TrapIsPlain, TrapNamesDiffer};
 ghost use Rattle.tta_trap.specs.Pins.{TrapPinsServe};
+ghost use Rattle.tta_trap.specs.Within.{TrapWordsStay};
 
 /// The circuit tells the fault of the next cycle by its number, and none where that cycle meets none.
 pub fn tells_faults()
@@ -55,4 +56,9 @@ pub fn trap_names_differ()
 /// taken exactly where the pin says so and it is offered.
 pub fn trap_pins_serve()
     ensures { TrapPinsServe }
+{}
+
+/// The words of all its signals and memories stay within their widths.
+pub fn trap_words_stay()
+    ensures { TrapWordsStay }
 {}

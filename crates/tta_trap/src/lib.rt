@@ -5,5 +5,5 @@ mod laws;
 
 pub use laws::{
     knows_on, tells_faults, trap_is_closed, trap_is_plain, trap_names_differ, trap_pins_serve,
-    trap_runs, trap_stands_still, trap_stays,
+    trap_runs, trap_stands_still, trap_stays, trap_words_stay,
 };
