@@ -18,7 +18,7 @@ pub use Rattle.tta_hardware.specs.Order.{rank}
 pub use Rattle.tta_hardware.specs.Parts.{shares_from}
 pub use Rattle.tta_hardware.specs.Registers.{becomes, enabled, register, register_width}
 pub use Rattle.tta_hardware.specs.Sized.{signal_width, store_width}
-pub use Rattle.tta_hardware.specs.Signals.{Acts, Asks, Code, Controls, Data, DestOf, Due, Ends, EndsNow, Expression, Fetched, Field, Frame, Gives, Goal, GoalNow, Goes, GuardOf, HasBegun, HasHalted, IsDue, IsInside, IsOffered, IsReady, IsReset, IsShort, Keeps, Lands, LongOf, NextPc, Offer, Operand, Pc, Port, PutWord, Puts, Raw, ShortOf, SourceOf, Starts, Store, TemplateOf, Trigger, Underway, Watches, Whole, Word}
+pub use Rattle.tta_hardware.specs.Signals.{Acts, Asks, Code, Controls, Data, DestOf, Due, Ends, EndsNow, Expression, Fetched, Field, Frame, Gives, Goal, GoalNow, Goes, GuardOf, HasBegun, HasHalted, IsDue, IsInside, IsOffered, IsReady, IsReset, IsShort, Keeps, Lands, LongOf, NextPc, Offer, Operand, Pc, Port, PutWord, Puts, Raw, ShortOf, SourceOf, Starts, Store, TemplateOf, Trigger, Underway, Watches, Boxes, Whole, Word}
 pub use Rattle.tta_hardware.specs.Wires.{all_ops, arrivals, buses_to, hits, is_load, made_of, never, nothing}
 pub use Rattle.tta_measure.specs.Cost.{free}
 unfoldable pub use Rattle.tta_measure.specs.Cost.{at, behind, beside, chosen, held, plus}

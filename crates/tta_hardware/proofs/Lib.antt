@@ -3,6 +3,7 @@ pub mod Chained
 pub mod Timed
 pub mod Begun
 pub mod Fresh
+pub mod Still
 pub mod Shown
 pub mod Coming
 pub mod Picked
@@ -40,6 +41,7 @@ pub mod Named
 pub mod Members
 pub mod Ordered
 pub mod Circuits
+pub mod Holding
 pub mod Running
 pub mod Rows
 pub mod Fitting

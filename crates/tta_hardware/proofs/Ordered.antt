@@ -9,7 +9,7 @@ use Rattle.tta_arch.specs.declared.ends.Source.TheVariants as source
 use Rattle.tta_arch.specs.declared.ends.Dest.TheVariants as dest
 use Rattle.tta_arch.specs.Effects.{width_of}
 use Rattle.tta_circuit.specs.Circuit.{Signal as OfSignal}
-use Rattle.tta_hardware.specs.Signals.{GuardOf, SourceOf, Signal as Named, Pc, HasHalted, Underway, Goal, Ends, Keeps, IsDue, Due, HasBegun, Raw, IsInside, Port, IsOffered, Offer, IsReady, IsReset, Fetched, Word, Acts, Starts, Trigger, Operand, Controls, GoalNow, EndsNow, Lands, Asks, Gives, Goes, NextPc, Puts, PutWord, Watches, Expression}
+use Rattle.tta_hardware.specs.Signals.{GuardOf, SourceOf, Signal as Named, Pc, HasHalted, Underway, Goal, Ends, Keeps, IsDue, Due, HasBegun, Raw, IsInside, Port, IsOffered, Offer, IsReady, IsReset, Fetched, Word, Acts, Starts, Trigger, Operand, Controls, GoalNow, EndsNow, Lands, Asks, Gives, Goes, NextPc, Puts, PutWord, Watches, Boxes, Expression}
 use Rattle.tta_hardware.specs.Chains.{any_of, first_of, pick_from}
 use Rattle.tta_hardware.specs.Wires.{never, nothing, source_word, passing, hits, buses_to, reached, arrivals, ops_of, all_ops, made_of}
 use Rattle.tta_hardware.specs.Hardware.{all_fields, first_wires, bus_wires, unit_wires, wire_names, wire}
@@ -161,6 +161,7 @@ module _ (m : Machine) where
   reads_lower IsReady = refl
   reads_lower IsReset = refl
   reads_lower (Watches w) = refl
+  reads_lower (Boxes b) = refl
 
   -- ---- all wires
 

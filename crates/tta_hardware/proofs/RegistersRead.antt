@@ -7,7 +7,7 @@ use Rattle.std.proofs.lemmas.Bool.{and_parts, and_from, lt-ltb, le-leb, leb-true
 use Rattle.tta_hardware.specs.Cited.{Op, Ldw, Stw, Ldf, Stf, Out, Take, Set, Template, UnitOp, Machine, template_width, Place, KeptReg, KeptImm, KeptOperand, KeptRa, KeptPort, op_at, Const, Signal, Slice, Select, Either, Equal, Below}
 use Rattle.tta_arch.specs.declared.ends.Dest.TheVariants as dest
 use Rattle.tta_arch.specs.Effects.{width_of}
-use Rattle.tta_hardware.specs.Signals.{TemplateOf, LongOf, Signal as Named, Pc, HasHalted, Underway, Goal, Ends, Keeps, IsDue, Due, HasBegun, Raw, IsInside, Port, IsOffered, Offer, IsReady, IsReset, Whole, Fetched, Word, Acts, Starts, Trigger, Operand, Controls, GoalNow, EndsNow, Lands, Asks, Gives, Goes, NextPc, Puts, PutWord, Watches}
+use Rattle.tta_hardware.specs.Signals.{TemplateOf, LongOf, Signal as Named, Pc, HasHalted, Underway, Goal, Ends, Keeps, IsDue, Due, HasBegun, Raw, IsInside, Port, IsOffered, Offer, IsReady, IsReset, Whole, Fetched, Word, Acts, Starts, Trigger, Operand, Controls, GoalNow, EndsNow, Lands, Asks, Gives, Goes, NextPc, Puts, PutWord, Watches, Boxes}
 use Rattle.tta_hardware.specs.Wires.{never, nothing, hits, buses_to, reached, begins, made, longest, is_coming, coming}
 use Rattle.tta_hardware.specs.Registers.{narrowed, kept_next, read_at, space_size, becomes, next_of, restarts, enabled}
 use Rattle.tta_hardware.specs.Stands.{has_place}
@@ -147,3 +147,4 @@ module _ (m : Machine) where
   register_ok IsReady is = refl
   register_ok IsReset is = refl
   register_ok (Watches w) is = refl
+  register_ok (Boxes b) is = refl

@@ -2,7 +2,7 @@
 use Rattle.std.proofs.Common.{◌≡◌, ℕ, map}
 use Rattle.std.specs.List.{range_with_len}
 use Rattle.tta_hardware.specs.Cited.{KeptReg, KeptImm, KeptOperand, KeptRa, KeptPort}
-use Rattle.tta_hardware.specs.Signals.{Field, LongOf, Signal as Named, Pc, HasHalted, Underway, Goal, Ends, Keeps, IsDue, Due, HasBegun, Raw, IsInside, Port, IsOffered, Offer, IsReady, IsReset, Whole, Fetched, Word, Acts, Starts, Trigger, Operand, Controls, GoalNow, EndsNow, Lands, Asks, Gives, Goes, NextPc, Puts, PutWord, Watches}
+use Rattle.tta_hardware.specs.Signals.{Field, LongOf, Signal as Named, Pc, HasHalted, Underway, Goal, Ends, Keeps, IsDue, Due, HasBegun, Raw, IsInside, Port, IsOffered, Offer, IsReady, IsReset, Whole, Fetched, Word, Acts, Starts, Trigger, Operand, Controls, GoalNow, EndsNow, Lands, Asks, Gives, Goes, NextPc, Puts, PutWord, Watches, Boxes}
 use Rattle.tta_hardware.proofs.Different.{Apart, risen, numbers_rise, mapped}
 
 -- ---- signals
@@ -31,6 +31,7 @@ group NextPc = 5
 group Puts = 5
 group PutWord = 5
 group (Watches w) = 11
+group (Boxes b) = 12
 group (Keeps (KeptReg file index)) = 6
 group (Keeps (KeptImm unit index)) = 7
 group (Keeps (KeptOperand unit)) = 8

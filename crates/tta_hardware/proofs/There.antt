@@ -7,7 +7,7 @@ use Rattle.std.proofs.lemmas.Bool.{and_parts, and_from, or_left, or_right, ltb-t
 use Rattle.tta_arch.specs.declared.parts.Unit.{Unit as OpUnit}
 use Rattle.tta_hardware.specs.Cited.{UnitOp, File, ImmUnit, Machine, IsMachine, numbers, KeptReg, KeptImm, KeptOperand, KeptRa, KeptPort, op_at, has_signal}
 use Rattle.tta_code.specs.declared.code.Code.{Code as Program}
-use Rattle.tta_hardware.specs.Signals.{Signal as Named, Pc, HasHalted, Underway, Goal, Ends, Keeps, IsDue, Due, HasBegun, Raw, IsInside, Port, IsOffered, Offer, IsReady, IsReset, Whole, Fetched, Word, Acts, Starts, Trigger, Operand, Controls, GoalNow, EndsNow, Lands, Asks, Gives, Goes, NextPc, Puts, PutWord, Watches, same_signal}
+use Rattle.tta_hardware.specs.Signals.{Signal as Named, Pc, HasHalted, Underway, Goal, Ends, Keeps, IsDue, Due, HasBegun, Raw, IsInside, Port, IsOffered, Offer, IsReady, IsReset, Whole, Fetched, Word, Acts, Starts, Trigger, Operand, Controls, GoalNow, EndsNow, Lands, Asks, Gives, Goes, NextPc, Puts, PutWord, Watches, Boxes, same_signal}
 use Rattle.tta_hardware.specs.Wires.{is_load, longest}
 use Rattle.tta_hardware.specs.Registers.{register}
 use Rattle.tta_hardware.specs.Hardware.{all_fields, bus_wires, unit_wires, first_wires, wire_names, result_registers, load_registers, unit_registers, register_names, wire, circuit_of}
@@ -44,6 +44,7 @@ is_there m (Starts unit op) = is_some (op_at m unit op)
 is_there m (Trigger unit) = nat_lt unit (length m.units)
 is_there m (Operand unit) = nat_lt unit (length m.units)
 is_there m (Watches w) = false
+is_there m (Boxes b) = false
 is_there m n = true
 
 -- ---- the circuit has it
@@ -127,6 +128,7 @@ module _ (m : Machine) (code : Program) (memory : List ℕ) where
   has_it Puts is = as_wire Puts (last_there m Puts refl)
   has_it PutWord is = as_wire PutWord (last_there m PutWord refl)
   has_it (Watches w) is = absurd (false≢true is)
+  has_it (Boxes b) is = absurd (false≢true is)
 
 -- ---- and what it has is there
 

@@ -8,7 +8,7 @@ use Rattle.tta_hardware.specs.Cited.{Out, Take, Guard, File, UnitOp, Source, Mac
 use Rattle.tta_arch.specs.declared.ends.Source.TheVariants as source
 use Rattle.tta_arch.specs.declared.ends.Dest.TheVariants as dest
 use Rattle.tta_arch.specs.Effects.{width_of}
-use Rattle.tta_hardware.specs.Signals.{GuardOf, IsShort, SourceOf, ShortOf, Signal as Named, Pc, HasHalted, Underway, Goal, Ends, Keeps, IsDue, Due, HasBegun, Raw, IsInside, Port, IsOffered, Offer, IsReady, IsReset, Whole, Fetched, Word, Acts, Starts, Trigger, Operand, Controls, GoalNow, EndsNow, Lands, Asks, Gives, Goes, NextPc, Puts, PutWord, Watches}
+use Rattle.tta_hardware.specs.Signals.{GuardOf, IsShort, SourceOf, ShortOf, Signal as Named, Pc, HasHalted, Underway, Goal, Ends, Keeps, IsDue, Due, HasBegun, Raw, IsInside, Port, IsOffered, Offer, IsReady, IsReset, Whole, Fetched, Word, Acts, Starts, Trigger, Operand, Controls, GoalNow, EndsNow, Lands, Asks, Gives, Goes, NextPc, Puts, PutWord, Watches, Boxes}
 use Rattle.tta_hardware.specs.Chains.{first_of, pick_from}
 use Rattle.tta_hardware.specs.Wires.{never, nothing, source_word, passing, hits, buses_to, reached, arrivals, ops_of, made_of}
 use Rattle.tta_hardware.proofs.Bringing.{reg_there, imm_there, unit_there}
@@ -140,3 +140,4 @@ module _ (m : Machine) (rules : IsMachine m) where
   wire_ok IsReady is = refl
   wire_ok IsReset is = refl
   wire_ok (Watches w) is = refl
+  wire_ok (Boxes b) is = refl

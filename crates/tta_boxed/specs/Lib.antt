@@ -1,0 +1,4 @@
+pub mod Cited
+pub mod Boxed
+pub mod Theorem
+pub mod Sized
