@@ -1,0 +1,11 @@
+pub mod Rising
+pub mod Names
+pub mod Counts
+pub mod Lists
+pub mod Places
+pub mod Ordered
+pub mod Rows
+pub mod Serving
+pub mod Written
+pub mod Closed
+pub mod Saying

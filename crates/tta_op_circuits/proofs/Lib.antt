@@ -1,0 +1,6 @@
+pub mod Dividing
+pub mod Stages
+pub mod Words
+pub mod Operations
+pub mod Renaming
+pub mod Settling
