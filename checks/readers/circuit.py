@@ -4,6 +4,7 @@ registers when the power comes, and those behind the end of a memory."""
 import re
 import sys
 
+from readers.beside import beside
 from readers.verilog_forms import Binary, Call, Constant, Function, Invert, Join, Name, Not, Outside, Part, Read, Refused, Repeat, Select, Table
 
 sys.setrecursionlimit(20_000)
@@ -128,11 +129,13 @@ class Words:
 
 
 class Circuit:
-    """A module without instances, and the words that it holds. `own` are the operations that other files make, by their names, and `files`
-    the texts of the files of memories."""
+    """A module, and the words that it holds. `own` are the operations that other files make, by their names, `files` the texts of the files
+    of memories, and `others` the modules of the text, of which it may have instances that make operations."""
 
-    def __init__(self, module, by, own=None, files=None):
+    def __init__(self, module, by, own=None, files=None, others=None):
         self.module, self.by, self.own, self.files = module, by, own or {}, files or {}
+        self.beside = [beside(module, it, by, self.own, lambda name: Circuit(others[name], by)) for it in module.instances]
+        self.joined = [it.joined["word"].name for it in module.instances]
         self.inputs = [name for name, (kind, width) in module.ports.items() if kind == "input" and name != "clk"]
         self.words = {name: by.getrandbits(width) for name, width in module.registers.items()}
         self.memories = {name: self.first_words(name, it) for name, it in module.memories.items()}
@@ -166,13 +169,20 @@ class Circuit:
         if type(it) is Outside:
             room[f"f_{name}"] = self.own[name[len("own_"):]]
             return
-        width, variable = it.variable
-        words = Words({name: bits for bits, name in it.inputs}, self.module, False)
-        if words.width(it.word) > width:
-            raise Refused(f"{name}: {words.width(it.word)} bits are made, and {width} taken")
-        names = ", ".join(f"v_{name}" for _, name in it.inputs)
-        part = Words({variable: width}, self.module, True).own(it.part)
-        exec(f"def f_{name}({names}):\n    v_{variable} = {words.code(it.word, width)}\n    return {part}\n", room)
+        widths, names = {name: bits for bits, name in it.inputs}, ", ".join(f"v_{name}" for _, name in it.inputs)
+        lines = [f"def f_{name}({names}):"]
+        for width, variable, word in it.variables:
+            lines.append(f"    v_{variable} = {self.taken_by(widths, variable, width, word)}")
+            widths[variable] = width
+        lines.append(f"    return {self.taken_by(widths, name, it.width, it.word)}")
+        exec("\n".join(lines) + "\n", room)
+
+    def taken_by(self, widths, name, width, word):
+        """What a function or a variable of it takes, which may have fewer bits than there are."""
+        words = Words(widths, self.module, False)
+        if words.width(word) > width:
+            raise Refused(f"{name}: {words.width(word)} bits are made, and {width} taken")
+        return words.code(word, width)
 
     def made(self):
         """A function of the inputs: the words of all names before a clock, what registers take, and what is written into memories."""
@@ -182,13 +192,16 @@ class Circuit:
             self.function(name, it, room)
         widths = {name: module.ports[name][1] for name in self.inputs}
         widths.update(module.registers)
+        if sorted(self.joined) != sorted(name for name, (_, word) in module.wires.items() if word is None):
+            raise Refused(f"{module.name}: {self.joined} are joined to instances, and not all wires without a word")
         words = Words(widths, module, True)
-        lines = [f"def step({', '.join(['held', 'memories', *(f'v_{name}' for name in self.inputs)])}):"]
+        lines = [f"def step({', '.join(['held', 'memories', *(f'v_{name}' for name in [*self.inputs, *self.joined])])}):"]
         lines += [f"    v_{name} = held[{name!r}]" for name in module.registers]
         lines += [f"    m_{name} = memories[{name!r}]" for name in module.memories]
         for name, (width, word) in module.wires.items():
-            self.fits(words, word, width, name)
-            lines.append(f"    v_{name} = {words.own(word)}")
+            if word is not None:
+                self.fits(words, word, width, name)
+                lines.append(f"    v_{name} = {words.own(word)}")
             widths[name] = width
         for name, word in module.shown.items():
             self.fits(words, word, module.ports[name][1], name)
@@ -197,7 +210,8 @@ class Circuit:
         for it in module.taken:
             lines.append(f"    if {words.test(it.enable)}: {self.taking(words, it)}")
         shown = ", ".join(f"{name!r}: v_{name}" for name in module.shown)
-        lines.append(f"    return {{{shown}}}, taken, written")
+        given = ", ".join(f"({', '.join(words.own(it.joined[port]) for port in ('enable', 'a', 'b'))})" for it in module.instances)
+        lines.append(f"    return {{{shown}}}, taken, written, [{given}]")
         exec("\n".join(lines) + "\n", room)
         return room["step"]
 
@@ -214,9 +228,12 @@ class Circuit:
 
     def shows(self, given):
         """What the outputs show where the inputs have these words, and a clock that may come of them."""
-        shown, taken, written = self.step(self.words, self.memories, *(given[name] for name in self.inputs))
+        made = [it.word() for it in self.beside]
+        shown, taken, written, told = self.step(self.words, self.memories, *(given[name] for name in self.inputs), *made)
 
         def clock():
+            for it, words in zip(self.beside, told):
+                it.clock(*words)
             self.words.update(taken)
             for name, address, word in written:
                 if address < len(self.memories[name]):

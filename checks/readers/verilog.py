@@ -244,19 +244,25 @@ class Reader:
         return Table(width, inputs, words, default)
 
     def made(self, name, width, inputs):
+        """What a function makes: its variables take their words in order, and then it takes its own."""
         if self.takes(name):
             self.want("=")
             word = self.expression()
             self.want(";")
-            return Function(width, inputs, (width, name), word, Name(name))
-        self.want("reg")
-        variable = self.range(), self.name()
-        self.want(";", "begin", variable[1], "=")
+            return Function(width, inputs, [], word)
+        variables, words = [], []
+        while self.takes("reg"):
+            variables.append((self.range(), self.name()))
+            self.want(";")
+        self.want("begin")
+        for _, variable in variables:
+            self.want(variable, "=")
+            words.append(self.expression())
+            self.want(";")
+        self.want(name, "=")
         word = self.expression()
-        self.want(";", name, "=", variable[1], "[")
-        part = self.part(variable[1])
         self.want(";", "end")
-        return Function(width, inputs, variable, word, part)
+        return Function(width, inputs, [(*variable, made) for variable, made in zip(variables, words)], word)
 
     def clocked(self, module, kind):
         self.want("@", "(", "posedge", "clk", ")", "if", "(")
@@ -279,7 +285,12 @@ class Reader:
         self.want(";")
 
     def instance(self, module):
-        of, name, joined = self.name(), self.name(), {}
+        of, stages, joined = self.name(), None, {}
+        if self.takes("#"):
+            self.want("(", ".", "STAGES", "(")
+            stages = self.number()
+            self.want(")", ")")
+        name = self.name()
         self.want("(")
         while not self.takes(")"):
             self.want(".")
@@ -289,7 +300,7 @@ class Reader:
             self.want(")")
             self.takes(",")
         self.want(";")
-        module.instances.append(Instance(of, name, joined))
+        module.instances.append(Instance(of, name, joined, stages))
 
 
 def modules(text):

@@ -14,15 +14,15 @@ Invert = namedtuple("Invert", "word")
 Binary = namedtuple("Binary", "sign left right")
 Select = namedtuple("Select", "test on off")
 
-# Functions: a table of an address; an expression over inputs, through a variable, of which a part is the word; and one of another file.
+# Functions: a table of an address; an expression over inputs and variables, which are widths with names and words; and one of another file.
 Table = namedtuple("Table", "width inputs words default")
-Function = namedtuple("Function", "width inputs variable word part")
+Function = namedtuple("Function", "width inputs variables word")
 Outside = namedtuple("Outside", "width inputs")
 # A memory with the first words that are not 0, or with the name of the file that has all of them; what is taken at a clock (`address` is None where it is a register), and an instance of
-# another module with the name that is joined to each of its ports.
+# another module, with the name that is joined to each of its ports, and the number of its stages where it is told one.
 Memory = namedtuple("Memory", "width size first file")
 Taken = namedtuple("Taken", "enable name address word")
-Instance = namedtuple("Instance", "module name joined")
+Instance = namedtuple("Instance", "module name joined stages")
 
 
 class Refused(Exception):

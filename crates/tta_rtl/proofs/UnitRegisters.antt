@@ -43,7 +43,8 @@ unfolding unit_registers_text
 units_registers m declares us =
     registers_each m declares (flat_map (unit_registers m) us) ∙ each_of (register_of m declares) (unit_registers m) us
 
-dues_each : (m : Machine) (declares : Bool) (unit : ℕ) (ds : List ℕ)
+-- whether results are due, one delay after another
+pub dues_each : (m : Machine) (declares : Bool) (unit : ℕ) (ds : List ℕ)
     → flat_map (register_of m declares) (map (IsDue unit) ds) ≡ flat_map (due_text m declares unit) ds
 unfolding due_text
 dues_each m declares unit [] = refl
@@ -67,7 +68,8 @@ unfolding load_text
 load_each m declares unit o true is = rw is (simp append-nil)
 load_each m declares unit o false is = rw is refl
 
-loads_each : (m : Machine) (declares : Bool) (unit : ℕ) (os : List (ℕ × UnitOp))
+-- the registers of loads, one operation after another
+pub loads_each : (m : Machine) (declares : Bool) (unit : ℕ) (os : List (ℕ × UnitOp))
     → flat_map (register_of m declares) (flat_map (load_registers unit) os) ≡ flat_map (load_text m declares unit) os
 loads_each m declares unit [] = refl
 loads_each m declares unit (o ∷ os) =

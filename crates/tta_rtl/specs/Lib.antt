@@ -2,6 +2,7 @@ pub mod Cited
 pub mod Texts
 pub mod Parts
 pub mod Functions
+pub mod Operations
 pub mod Memories
 pub mod Kept
 pub mod CodeFile

@@ -132,7 +132,7 @@ fn push_due_words(
 }
 
 /// For how many delays a result of a unit is kept before it is in its port.
-fn later_delays(m: &Machine, unit: u8) -> u8
+pub fn later_delays(m: &Machine, unit: u8) -> u8
     ensures count { result ≡ w.longest m.now unit - 1 }
     ensures few { result < 255 }
 {

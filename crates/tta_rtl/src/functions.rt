@@ -11,7 +11,7 @@ use tta_ops::{OpId, UnitSet};
 use tta_verilog::{push_number, push_text};
 
 /// Whether this is the operation of a number.
-fn has_number(id: OpId, op: Op) -> bool
+pub fn has_number(id: OpId, op: Op) -> bool
     ensures { result ≡ f.has_number id.0 op }
 {
     match op {
@@ -40,84 +40,113 @@ fn is_offered(id: OpId, all: &[Unit]) -> bool
     }
 }
 
-/// What a sum, product or quotient makes of the words a and b, by its name.
+/// What the word of a sum or product is made of, by its name.
 fn arithmetic(name: &[u8]) -> Option<&'static [u8]>
-    ensures { option_map (λ made. made.now) result ≡ f.made_in f.arithmetic name.now }
+    ensures { option_map (λ word. word.now) result ≡ f.word_in f.arithmetic name.now }
 {
     Some(if name == b"add".as_slice() {
-        b"a + b".as_slice()
+        b"(a)+(b)".as_slice()
     } else if name == b"sub".as_slice() {
-        b"a - b".as_slice()
+        b"(a)-(b)".as_slice()
     } else if name == b"mul".as_slice() {
-        b"a * b".as_slice()
+        b"(a)*(b)".as_slice()
     } else if name == b"mulhu".as_slice() {
-        b"({32'd0,a} * {32'd0,b}) >> 32".as_slice()
+        b"t_0[32+:32]".as_slice()
     } else if name == b"neg".as_slice() {
-        b"32'd0 - b".as_slice()
-    } else if name == b"divu".as_slice() {
-        b"(b == 32'd0) ? 32'd4294967295 : {a / b}".as_slice()
-    } else if name == b"remu".as_slice() {
-        b"(b == 32'd0) ? a : {a % b}".as_slice()
+        b"(32'd0)-(b)".as_slice()
     } else {
         return None;
     })
 }
 
-/// What an operation on bits makes of the words a and b, by its name.
+/// What the word of an operation on bits is made of, by its name. `shr` copies the top bit.
 fn logic(name: &[u8]) -> Option<&'static [u8]>
-    ensures { option_map (λ made. made.now) result ≡ f.made_in f.logic name.now }
+    ensures { option_map (λ word. word.now) result ≡ f.word_in f.logic name.now }
 {
     Some(if name == b"and".as_slice() {
-        b"a & b".as_slice()
+        b"(a)&(b)".as_slice()
     } else if name == b"or".as_slice() {
-        b"a | b".as_slice()
+        b"(a)|(b)".as_slice()
     } else if name == b"xor".as_slice() {
-        b"a ^ b".as_slice()
+        b"(a)^(b)".as_slice()
     } else if name == b"not".as_slice() {
-        b"~b".as_slice()
+        b"(b)^(32'd4294967295)".as_slice()
     } else if name == b"shl".as_slice() {
-        b"a << b[4:0]".as_slice()
+        b"(a)<<(b[0+:5])".as_slice()
     } else if name == b"shr".as_slice() {
-        b"{{32{a[31]}},a} >> b[4:0]".as_slice()
+        b"t_0[0+:32]".as_slice()
     } else if name == b"shru".as_slice() {
-        b"a >> b[4:0]".as_slice()
+        b"(a)>>(b[0+:5])".as_slice()
     } else {
         return None;
     })
 }
 
-/// What a comparison makes of the words a and b, by its name. `lt` and `gt` turn the top bits.
+/// What the word of a comparison is made of, by its name. `lt` and `gt` turn the top bits.
 fn comparison(name: &[u8]) -> Option<&'static [u8]>
-    ensures { option_map (λ made. made.now) result ≡ f.made_in f.comparisons name.now }
+    ensures { option_map (λ word. word.now) result ≡ f.word_in f.comparisons name.now }
 {
     Some(if name == b"eq".as_slice() {
-        b"{31'd0,a == b}".as_slice()
+        b"{31'd0,(a)==(b)}".as_slice()
     } else if name == b"ne".as_slice() {
-        b"{31'd0,a != b}".as_slice()
+        b"{31'd0,!((a)==(b))}".as_slice()
     } else if name == b"lt".as_slice() {
-        b"{31'd0,{~a[31],a[30:0]} < {~b[31],b[30:0]}}".as_slice()
+        b"{31'd0,({!(a[31+:1]),a[0+:31]})<({!(b[31+:1]),b[0+:31]})}".as_slice()
     } else if name == b"gt".as_slice() {
-        b"{31'd0,{~b[31],b[30:0]} < {~a[31],a[30:0]}}".as_slice()
+        b"{31'd0,({!(b[31+:1]),b[0+:31]})<({!(a[31+:1]),a[0+:31]})}".as_slice()
     } else if name == b"ltu".as_slice() {
-        b"{31'd0,a < b}".as_slice()
+        b"{31'd0,(a)<(b)}".as_slice()
     } else if name == b"gtu".as_slice() {
-        b"{31'd0,b < a}".as_slice()
+        b"{31'd0,(b)<(a)}".as_slice()
     } else {
         return None;
     })
 }
 
-/// What an operation makes of the words a and b, and `None` for one that is not a standard one.
-fn made_of(name: &[u8]) -> Option<&'static [u8]>
-    ensures { option_map (λ made. made.now) result ≡ f.made_of name.now }
+/// What the word of a standard operation that is no division is made of, by its name.
+fn word_of(name: &[u8]) -> Option<&'static [u8]>
+    ensures { option_map (λ word. word.now) result ≡ f.word_of name.now }
 {
-    if let Some(made) = arithmetic(name) {
-        return Some(made);
+    if let Some(word) = arithmetic(name) {
+        return Some(word);
     }
-    if let Some(made) = logic(name) {
-        return Some(made);
+    if let Some(word) = logic(name) {
+        return Some(word);
     }
     comparison(name)
+}
+
+/// The lines before that word.
+fn before_of(name: &[u8]) -> &'static [u8]
+    ensures { result.now ≡ f.before_of name.now }
+{
+    if name == b"mulhu".as_slice() {
+        b"reg [63:0] t_0;\nbegin\nt_0 = ({32'd0,a})*({32'd0,b});\n".as_slice()
+    } else if name == b"shr".as_slice() {
+        b"reg [63:0] t_0;\nbegin\nt_0 = ({(a[31+:1])?(32'd4294967295):32'd0,a})>>(b[0+:5]);\n".as_slice()
+    } else {
+        b"begin\n".as_slice()
+    }
+}
+
+/// What a division makes of the words a and b, by its name.
+fn division_of(name: &[u8]) -> Option<&'static [u8]>
+    ensures { option_map (λ made. made.now) result ≡ f.division_of name.now }
+{
+    if name == b"divu".as_slice() {
+        return Some(b"(b == 32'd0) ? 32'd4294967295 : {a / b}".as_slice());
+    }
+    if name == b"remu".as_slice() {
+        return Some(b"(b == 32'd0) ? a : {a % b}".as_slice());
+    }
+    None
+}
+
+/// Whether an operation is a standard one, by its name.
+pub fn is_standard(name: &[u8]) -> bool
+    ensures { result ≡ f.is_standard name.now }
+{
+    word_of(name).is_some() || division_of(name).is_some()
 }
 
 /// Puts the lines of a function before what it makes. Functions are called by the numbers of operations.
@@ -132,7 +161,21 @@ fn start_function(out: &mut Vec<u8>, id: OpId, name: &[u8]) -> Result<(), AllocE
     push_text(out, b";\ninput [31:0] a;\ninput [31:0] b;\n")
 }
 
-/// Puts what a standard operation makes of its two words.
+/// Puts what the circuit of a standard operation makes of its two words.
+#[tactic(auto, unfolding(crate::specs::Functions::worked_text))]
+fn push_worked(out: &mut Vec<u8>, id: OpId, before: &[u8], word: &[u8]) -> Result<(), AllocError>
+    ensures { OnOk result
+        (out.new.items ≡ out.old.items ++ f.worked_text id.0 before.now word.now) }
+{
+    push_text(out, before)?;
+    push_text(out, b"op_")?;
+    push_number(out, u64::from(id.0))?;
+    push_text(out, b" = ")?;
+    push_text(out, word)?;
+    push_text(out, b";\nend\nendfunction\n")
+}
+
+/// Puts what a division makes of its two words.
 #[tactic(auto, unfolding(crate::specs::Functions::made_text))]
 fn push_made(out: &mut Vec<u8>, id: OpId, made: &[u8]) -> Result<(), AllocError>
     ensures { OnOk result (out.new.items ≡ out.old.items ++ f.made_text id.0 made.now) }
@@ -168,16 +211,26 @@ fn push_own(out: &mut Vec<u8>, id: OpId, name: &[u8]) -> Result<(), AllocError>
     push_called(out, id, name)
 }
 
-/// Puts the function of an operation by its name.
-#[tactic(auto, unfolding(crate::specs::Functions::function_text))]
-fn push_function(out: &mut Vec<u8>, id: OpId, name: &[u8]) -> Result<(), AllocError>
-    ensures { OnOk result (out.new.items ≡ out.old.items ++ f.operation_text id.0 name.now) }
+/// Puts the function of a division or of an operation of one's own, by its name.
+fn push_other(out: &mut Vec<u8>, id: OpId, name: &[u8]) -> Result<(), AllocError>
+    ensures { OnOk result (out.new.items ≡ out.old.items ++ f.other_text id.0 name.now) }
 {
-    let Some(made) = made_of(name) else {
+    let Some(made) = division_of(name) else {
         return push_own(out, id, name);
     };
     start_function(out, id, name)?;
     push_made(out, id, made)
+}
+
+/// Puts the function of an operation by its name.
+pub fn push_function(out: &mut Vec<u8>, id: OpId, name: &[u8]) -> Result<(), AllocError>
+    ensures { OnOk result (out.new.items ≡ out.old.items ++ f.operation_text id.0 name.now) }
+{
+    let Some(word) = word_of(name) else {
+        return push_other(out, id, name);
+    };
+    start_function(out, id, name)?;
+    push_worked(out, id, before_of(name), word)
 }
 
 /// Puts the function of an operation, if the machine offers it.

@@ -44,7 +44,7 @@ fn push_operand_rest(
 
 /// Puts the operand port of a unit.
 #[tactic(auto, unfolding(crate::specs::Texts::register_of))]
-fn push_operand_port(
+pub fn push_operand_port(
     out: &mut Vec<u8>,
     on: &On<'_>,
     declares: bool,

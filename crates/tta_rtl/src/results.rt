@@ -29,14 +29,14 @@ pub fn is_load(op: Op) -> bool
 }
 
 /// Whether a load's result shows after so many cycles.
-fn loads_in(o: UnitOp, latency: u8) -> bool
+pub fn loads_in(o: UnitOp, latency: u8) -> bool
     ensures { result ≡ (w.is_load o.op && o.latency == latency) }
 {
     is_load(o.op) && o.latency == latency
 }
 
 /// Whether an operation's result shows after so many cycles.
-fn shows_in(o: UnitOp, latency: u8) -> bool
+pub fn shows_in(o: UnitOp, latency: u8) -> bool
     ensures { result ≡ (has_result o.op && o.latency == latency) }
 {
     o.op.has_result() && o.latency == latency
@@ -108,7 +108,12 @@ pub fn push_fresh(out: &mut Vec<u8>, on: &On<'_>, unit: u8, latency: u8) -> Resu
 }
 
 /// Puts the first word that an operation takes: 0 where it takes one alone.
-fn push_first_word(out: &mut Vec<u8>, on: &On<'_>, unit: u8, o: UnitOp) -> Result<(), AllocError>
+pub fn push_first_word(
+    out: &mut Vec<u8>,
+    on: &On<'_>,
+    unit: u8,
+    o: UnitOp,
+) -> Result<(), AllocError>
     ensures { OnOk result (out.new.items ≡ out.old.items ++ text_of on.now.m.now
         (if o.arity == 2 then c.Signal (s.Operand unit) else w.nothing)) }
 {
@@ -142,7 +147,7 @@ fn push_applied(
 }
 
 /// Puts the word that an operation shows; a load has none yet.
-fn push_result(out: &mut Vec<u8>, on: &On<'_>, unit: u8, o: UnitOp) -> Result<(), AllocError>
+pub fn push_result(out: &mut Vec<u8>, on: &On<'_>, unit: u8, o: UnitOp) -> Result<(), AllocError>
     ensures { OnOk result (out.new.items ≡ out.old.items
         ++ text_of on.now.m.now (w.result_of on.now.m.now unit o)) }
 {

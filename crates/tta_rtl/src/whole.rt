@@ -75,7 +75,7 @@ pub fn push_registers(out: &mut Vec<u8>, on: &On<'_>, declares: bool) -> Result<
 }
 
 /// Puts all wires.
-fn push_wires(alloc: Global, out: &mut Vec<u8>, on: &On<'_>) -> Result<(), AllocError>
+pub fn push_wires(alloc: Global, out: &mut Vec<u8>, on: &On<'_>) -> Result<(), AllocError>
     ensures { let M = on.now.m.now in
         OnOk result (out.new.items ≡ out.old.items ++ wires_text M (h.wire_names M)) }
 {
@@ -161,7 +161,7 @@ pub fn offers(alloc: Global, m: &Machine, op: Op) -> Result<bool, AllocError>
 }
 
 /// Puts what stands before the parts of the circuit.
-fn push_before(
+pub fn push_before(
     out: &mut Vec<u8>,
     on: &On<'_>,
     name: &[u8],
