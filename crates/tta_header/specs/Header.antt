@@ -13,6 +13,8 @@ use Rattle.tta_rtl.specs.declared.rom.Rom.TheVariants as rom
 use Rattle.tta_rtl.specs.CodeFile.{code_file}
 use Rattle.tta_rtl.specs.Module.{offers, rtl_of}
 use Rattle.tta_trap_rtl.specs.Module.{trap_rtl_of}
+use Rattle.tta_boxed_rtl.specs.Module.{boxed_rtl_of}
+use Rattle.tta_header.specs.declared.features.Features.{Features}
 
 -- ---- the lines
 
@@ -57,15 +59,18 @@ source_lines m digest rom.Text faults image whole = image_lines m digest image w
 source_lines m digest rom.File faults image whole =
     file_lines m digest ++ (if faults then code_line (length whole.code.words) (word_width m) else [])
 
--- a module, which tells faults or does not
-abbrev pub module_of : Units → Machine → Rom → (faults : Bool) → Whole → List ℕ
-module_of u m r faults whole = if faults then trap_rtl_of u m r whole else rtl_of u m r whole
+-- a module that does these things
+abbrev pub module_of : Units → Machine → Rom → Features → Whole → List ℕ
+module_of u m r features whole =
+    if features.modules then boxed_rtl_of u m r features.faults whole
+    else if features.faults then trap_rtl_of u m r whole
+    else rtl_of u m r whole
 
 -- the circuit of a machine with code and data as a module, with what it is made of and its ports above it
-abbrev pub headed_rtl : Units → Machine → (digest : List ℕ) → Rom → (faults : Bool) → (image : List ℕ) → Whole → List ℕ
-headed_rtl u m digest r faults image whole =
-    source_lines m digest r faults image whole
-    ++ (ports_line faults (offers m Out) (offers m Take) ++ module_of u m r faults whole)
+abbrev pub headed_rtl : Units → Machine → (digest : List ℕ) → Rom → Features → (image : List ℕ) → Whole → List ℕ
+headed_rtl u m digest r features image whole =
+    source_lines m digest r features.faults image whole
+    ++ (ports_line features.faults (offers m Out) (offers m Take) ++ module_of u m r features whole)
 
 -- the file of the words of code, with what it is made of above them
 abbrev pub headed_file : Machine → (digest image : List ℕ) → Whole → List ℕ

@@ -11,9 +11,11 @@ ghost use Rattle.tta_rtl.specs.declared.rom.Rom.TheVariants as rom;
 ghost use Rattle.tta_arch.specs.declared.parts.Op.TheVariants as op;
 ghost use Rattle.tta_header.specs.Header as h;
 
+use crate::features::Features;
 use crate::lines::{push_code, push_file, push_image, push_machine, push_ports};
 use std::alloc::{AllocError, Global};
 use tta_arch::{Layout, Machine, Op};
+use tta_boxed_rtl::{Wanted, write_boxed_rtl};
 use tta_code::Whole;
 use tta_image::write_image;
 use tta_ops::UnitSet;
@@ -110,20 +112,29 @@ fn push_ports_of(
     push_ports(out, faults, gives, takes)
 }
 
-/// The text of a module, which tells faults or does not.
+/// The text of a module that does these things.
 fn write_module(
     alloc: Global,
     units: &UnitSet,
     rom: Rom,
-    faults: bool,
+    features: Features,
     of: &Source<'_>,
 ) -> Result<Vec<u8>, AllocError>
     requires legal { IsLegalCode of.now.m.now of.now.whole.now.code }
     requires data { fits of.now.m.now.data_words of.now.whole.now.init ≡ true }
     ensures { let U = stated unit_meaning units.now in
-        IfOk result (λ v. v.items ≡ h.module_of U of.now.m.now rom faults of.now.whole.now) }
+        IfOk result (λ v. v.items ≡ h.module_of U of.now.m.now rom features of.now.whole.now) }
 {
-    if faults {
+    if features.modules {
+        let wanted = Wanted {
+            m: of.m,
+            units,
+            rom,
+            faults: features.faults,
+        };
+        return write_boxed_rtl(alloc, &wanted, of.digest, of.whole);
+    }
+    if features.faults {
         write_trap(alloc, of.m, units, rom, of.digest, of.whole)
     } else {
         write_rtl(alloc, of.m, units, rom, of.digest, of.whole)
@@ -132,12 +143,13 @@ fn write_module(
 
 /// The text of the circuit of a machine with code and data as a module, with lines above it that tell the
 /// machine, the image and the ports. The words of code stand in it, or in the file that `write_headed_file`
-/// makes. With `faults` it tells the first fault and stops there.
+/// makes. With `faults` it tells the first fault and stops there, and with `modules` it leaves what takes
+/// several cycles to modules beside it.
 pub fn write_headed_rtl(
     alloc: Global,
     units: &UnitSet,
     rom: Rom,
-    faults: bool,
+    features: Features,
     of: &Source<'_>,
 ) -> Result<Vec<u8>, AllocError>
     requires legal { IsLegalCode of.now.m.now of.now.whole.now.code }
@@ -145,13 +157,13 @@ pub fn write_headed_rtl(
     ensures { let U = stated unit_meaning units.now in
         let M = of.now.m.now in
         IfOk result (λ v. h.TellsImage M of.now.digest.now of.now.whole.now
-        (λ image. h.headed_rtl U M of.now.digest.now rom faults image of.now.whole.now) v.items) }
+        (λ image. h.headed_rtl U M of.now.digest.now rom features image of.now.whole.now) v.items) }
 {
     let image = write_image(alloc, of.whole, of.m, of.digest)?;
     let mut out = Vec::new(alloc);
-    push_source_lines(alloc, &mut out, of, rom, faults, image.as_slice())?;
-    push_ports_of(alloc, &mut out, of.m, faults)?;
-    let text = write_module(alloc, units, rom, faults, of)?;
+    push_source_lines(alloc, &mut out, of, rom, features.faults, image.as_slice())?;
+    push_ports_of(alloc, &mut out, of.m, features.faults)?;
+    let text = write_module(alloc, units, rom, features, of)?;
     push_text(&mut out, text.as_slice())?;
     Ok(out)
 }

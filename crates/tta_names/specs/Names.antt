@@ -4,7 +4,7 @@ use Rattle.std.specs.Option.{option_map_or}
 use Rattle.tta_arch.specs.Machine.{Machine}
 use Rattle.tta_arch.specs.Effects.{Place, KeptReg, KeptImm, KeptOperand, KeptRa, KeptPort}
 use Rattle.tta_disasm.specs.Canonical.{file_name, imm_name, unit_name}
-use Rattle.tta_hardware.specs.Signals.{Field, GuardOf, IsShort, SourceOf, ShortOf, DestOf, TemplateOf, LongOf, Store, Code, Data, Frame, Signal as Named, Pc, Whole, HasHalted, Underway, Goal, Ends, Keeps, IsDue, Due, HasBegun, Raw, IsInside, IsOffered, Offer, IsReady, IsReset, Port, Fetched, Word, Acts, Starts, Trigger, Operand, Controls, GoalNow, EndsNow, Lands, Asks, Gives, Goes, NextPc, Puts, PutWord, Watch, HasWord, IsPast, LacksRegister, LacksPort, LacksOperand, Clashes, FaultNow, Watches, Expression}
+use Rattle.tta_hardware.specs.Signals.{Field, GuardOf, IsShort, SourceOf, ShortOf, DestOf, TemplateOf, LongOf, Store, Code, Data, Frame, Signal as Named, Pc, Whole, HasHalted, Underway, Goal, Ends, Keeps, IsDue, Due, HasBegun, Raw, IsInside, IsOffered, Offer, IsReady, IsReset, Port, Fetched, Word, Acts, Starts, Trigger, Operand, Controls, GoalNow, EndsNow, Lands, Asks, Gives, Goes, NextPc, Puts, PutWord, Watch, HasWord, IsPast, LacksRegister, LacksPort, LacksOperand, Clashes, FaultNow, Watches, Box, Shows, IsFrom, Boxes, Expression}
 use Rattle.tta_verilog.specs.Expressions.{Names, expression}
 
 -- the name of a bus
@@ -43,6 +43,11 @@ watch_name m (LacksOperand unit) = codes "lacks_" ++ unit_name m unit
 watch_name m (Clashes unit) = codes "clashes_" ++ unit_name m unit
 watch_name m FaultNow = codes "n_fault"
 
+-- what is had by a circuit alone that leaves operations to modules
+abbrev pub box_name : Machine → Box → List ℕ
+box_name m (Shows unit op) = counted (codes "made_") (unit_name m unit) op
+box_name m (IsFrom unit op delay) = counted (codes "from_") (unit_name m unit) op ++ (codes "_" ++ decimal delay)
+
 -- A signal. What stands before the first `_` tells its kind; then comes a name of the machine, and a number where there is one. The
 -- inputs are called as the ports.
 abbrev pub signal_name : Machine → Named → List ℕ
@@ -80,6 +85,7 @@ signal_name m NextPc = codes "n_next_pc"
 signal_name m Puts = codes "n_puts"
 signal_name m PutWord = codes "n_put"
 signal_name m (Watches w) = watch_name m w
+signal_name m (Boxes b) = box_name m b
 
 -- a memory
 abbrev pub store_name : Store → List ℕ

@@ -12,4 +12,6 @@ mod reads;
 mod watching;
 mod whole;
 
-pub use whole::write_trap;
+pub use pins::{push_before, push_shown};
+pub use watching::push_watches;
+pub use whole::{push_all_wires, write_trap};

@@ -68,7 +68,7 @@ fn push_late_wires(alloc: Global, out: &mut Vec<u8>, on: &On<'_>) -> Result<(), 
 }
 
 /// Puts all wires, with code of so many instructions.
-fn push_all_wires(
+pub fn push_all_wires(
     alloc: Global,
     out: &mut Vec<u8>,
     on: &On<'_>,

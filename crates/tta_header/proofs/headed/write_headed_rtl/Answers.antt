@@ -12,9 +12,9 @@ returns g c =
     let m = c.args.of.now.m.now in
     let whole = c.args.of.now.whole.now in
     let image = c.in_ok-image.image.items in
-    let source : List ℕ → List ℕ = λ i. source_lines m c.args.of.now.digest.now c.args.rom c.args.faults i whole in
-    let ports = ports_line c.args.faults (offers m Out) (offers m Take) in
-    let rtl = module_of U m c.args.rom c.args.faults whole in
+    let source : List ℕ → List ℕ = λ i. source_lines m c.args.of.now.digest.now c.args.rom c.args.features.faults i whole in
+    let ports = ports_line c.args.features.faults (offers m Out) (offers m Take) in
+    let rtl = module_of U m c.args.rom c.args.features whole in
     let first : c.push_source_lines.new.out.items ≡ [] ++ source image =
     c.in_ok-push_source_lines.ensures ∙ ap (λ (o : List ℕ). o ++ source c.as_slice.result.now) c.new-out.ensures.items
     ∙ ap source c.as_slice.ensures.value in
