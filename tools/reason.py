@@ -223,6 +223,8 @@ def of_usage(said):
         if len(form) == len(words) and wrong:
             name, word = wrong[0]
             lines = [f"{word[:LONGEST]!r} stands where {name} has to be {ROUNDS if form[0] == 'net' else RANGES[name]}"]
+    if words[:1] == ["circuit"] and len(words) == 2:
+        lines = [f"the unit hands in no circuit of an operation {words[1][:LONGEST]!r}"]
     if not all(map(command_words.is_text, words)):
         lines = ["a word has bytes that are no UTF-8"]
     return lines + ([f"its words are: {' '.join(form)}" for form in forms] or ["./tta help lists the commands"])

@@ -93,7 +93,9 @@ def write(path, text):
 def built(owns, kept, folder):
     """Builds the program that hands the operations over, beside the plain programs that are kept in a folder."""
     with open(os.path.join(TOP, "crates", "tta_with_bits", "src", "main.rt"), encoding="utf-8") as f:
-        main = re.sub(r"\bBits\b", "Pairs", f.read().replace("tta_bits", UNIT))
+        # A unit of pairs hands in no circuits.
+        lines = [line for line in f if "circuit" not in line]
+    main = re.sub(r"\bBits\b", "Pairs", "".join(lines).replace("tta_bits", UNIT))
     sources = [os.path.join(folder, name, "src") for name in (UNIT, PROGRAM)]
     write(os.path.join(sources[0], "lib.rt"), source_of(owns))
     write(os.path.join(sources[1], "main.rt"), main)

@@ -1,2 +1,4 @@
+pub mod Cited
 pub mod Bits
+pub mod Circuits
 pub mod Signed

@@ -12,6 +12,7 @@ use tta_bits::Bits;
 use tta_inspect::{is_named, show};
 use tta_load::Status;
 use tta_ops::{Arith, Compare, Divide, Logic, OpUnit, OpsError, Shift, UnitSet};
+use tta_own_circuits::{is_circuit, show_function};
 use tta_ports::{Files, RealFiles, RealSink, Sink};
 use tta_stdin::{Lines, RealLines};
 use tta_tool::tool;
@@ -34,6 +35,8 @@ fn words_of(rt: &(impl Env + AllocGlobal)) -> Result<Vec<String>, Status> {
 
 /// Carries out the words over the units: those that `show` knows by their first, and all others as
 /// `tool` does.
+///
+/// The function of an operation by its circuit is put here too.
 fn carry_out<F: Files, L: Lines, S: Sink>(
     alloc: Global,
     words: &Vec<String>,
@@ -42,10 +45,10 @@ fn carry_out<F: Files, L: Lines, S: Sink>(
     lines: &mut L,
     sink: &mut S,
 ) -> Status {
-    if is_named(words) {
-        show(alloc, words, units, files, lines, sink)
-    } else {
-        tool(alloc, words, units, files, sink)
+    match words {
+        _ if is_circuit(words) => show_function(alloc, words, &Bits, sink),
+        _ if is_named(words) => show(alloc, words, units, files, lines, sink),
+        _ => tool(alloc, words, units, files, sink),
     }
 }
 

@@ -1,0 +1,4 @@
+pub mod Turning
+pub mod Counting
+pub mod Numbers
+pub mod Making

@@ -1,0 +1,9 @@
+use Rattle.std.proofs.Common.{◌∙◌}
+use Rattle.std.specs.Fmt.{digits}
+use Rattle.tta_verilog.specs.Expressions.{between, choice, constant, joined, negated, part}
+use Rattle.tta_bits.specs.Circuits.{ones_from}
+use Rattle.tta_bits.proofs.circuits.ones.Goals as goal
+
+pub returns : goal.returns
+unfolding digits constant part between negated choice joined ones_from
+returns c = record { before = c.of_word.ensures.before; word = c.of_word.ensures.word ∙ c.as_slice.ensures }

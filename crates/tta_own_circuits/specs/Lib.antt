@@ -1,0 +1,3 @@
+pub mod Cited
+pub mod Texts
+pub mod Command
