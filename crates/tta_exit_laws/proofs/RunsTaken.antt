@@ -56,7 +56,7 @@ module _ (u : Units) (store : Store) (faults : ℕ) (latest : Option Fault) (aft
       file_only store faults latest after none (Fills space) (RefusesInput space) IN a.value 3 s (λ bytes. input_only space bytes a.value s) a.held fails
 
   -- and an input only for that
-  pub stream_only : (STREAM : Option (List ℕ)) (words : List ℕ) (s : Status) → IsStream (Some store) STREAM words → StreamFails STREAM before after s → s ≡ status.NoMemory
+  pub stream_only : (STREAM : Option (List ℕ)) (words : List ℕ) (s : Status) → IsStream (Some store) STREAM words → StreamFails 5 STREAM before after s → s ≡ status.NoMemory
   stream_only None words s is fails = absurd fails
   stream_only (Some name) words s is fails =
       file_only store faults latest after none IsInput RefusesStream name words 5 s (λ bytes. words_only bytes words s) is fails

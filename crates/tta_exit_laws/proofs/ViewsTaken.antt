@@ -9,7 +9,8 @@ use Rattle.tta_load.specs.declared.status.Status.TheVariants as status
 use Rattle.tta_inspect.specs.declared.subject.Subject.TheVariants.{Code, Program}
 use Rattle.tta_inspect.specs.Runs.{IsShown}
 use Rattle.tta_inspect.specs.Stages.{IsCauseOf as IsStageCause}
-use Rattle.tta_inspect.specs.Prompts.{StreamFails, Ended, SessionEnds}
+use Rattle.tta_load.specs.Inputs.{StreamFails}
+use Rattle.tta_inspect.specs.Prompts.{Ended, SessionEnds}
 use Rattle.tta_exit_laws.specs.Completes.{showing}
 use Rattle.tta_exit_laws.specs.PutCompletes.{IsUndisturbed}
 use Rattle.tta_exit_laws.specs.ViewCompletes.{MachineViewCompletes, InfoCompletes, PictureCompletes, IsRunnable, IsTooLong, RunViewCompletes}
@@ -170,7 +171,7 @@ module _ (u : Units) (store : Store) (faults : ℕ) (latest : Option Fault) (aft
   before = showing store faults latest
 
   -- an input that a file holds is not taken only for lack of memory
-  stream_only : (STREAM : Option (List ℕ)) (words : List ℕ) → IsStream (Some store) STREAM words → StreamFails STREAM before after s → s ≡ status.NoMemory
+  stream_only : (STREAM : Option (List ℕ)) (words : List ℕ) → IsStream (Some store) STREAM words → StreamFails 4 STREAM before after s → s ≡ status.NoMemory
   stream_only None words is fails = absurd fails
   stream_only (Some name) words is fails =
       file_only store faults latest after none IsInput RefusesStream name words 4 s (λ bytes. words_only bytes words s) is fails
@@ -185,8 +186,8 @@ module _ (u : Units) (store : Store) (faults : ℕ) (latest : Option Fault) (aft
       (λ bytes is. image_only u held.bytes file bytes has.pair.second.value s held.says is) fails
   files_only M IMG IN STREAM has (inr (b, fails)) =
       let file = same_file u store M b.machine has.pair.machine in
-      by (subst (λ (f : MachineFile). GivenFails f.machine.data_words IN STREAM before after s) file fails) where
-        by : GivenFails has.pair.machine.value.machine.data_words IN STREAM before after s → s ≡ status.NoMemory
+      by (subst (λ (f : MachineFile). GivenFails 4 f.machine.data_words IN STREAM before after s) file fails) where
+        by : GivenFails 4 has.pair.machine.value.machine.data_words IN STREAM before after s → s ≡ status.NoMemory
         by (inl fails) = memory_only u store faults latest after none has.pair.machine.value.machine.data_words IN s has.given.input fails
         by (inr (input, fails)) = stream_only STREAM has.given.stream.words has.given.stream.is fails
 

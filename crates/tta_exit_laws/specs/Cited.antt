@@ -17,7 +17,7 @@ pub use Rattle.tta_inspect.specs.Costs.{IsCostText, ShowsCost}
 pub use Rattle.tta_inspect.specs.Depths.{depths_in}
 pub use Rattle.tta_inspect.specs.Joining.{IsNetText, ShowsNet}
 pub use Rattle.tta_inspect.specs.Pictures.{IsPictureText, ShowsPicture}
-pub use Rattle.tta_inspect.specs.Prompts.{FilesFail, GivenFails, OpensPrompt}
+pub use Rattle.tta_inspect.specs.Prompts.{FilesFail, OpensPrompt}
 pub use Rattle.tta_inspect.specs.Request.{OfInfo}
 pub use Rattle.tta_inspect.specs.Runs.{Lacks, ShowsRun, Tells}
 pub use Rattle.tta_inspect.specs.Stages.{IsStagesOf, ShowsStages}
@@ -32,7 +32,7 @@ pub use Rattle.tta_load.specs.Endings.{HasThree, OfNamed, OfPair, OfRun, PairFau
 pub use Rattle.tta_load.specs.Ends.{IsWritten, PutEnds, Puts, TextEnds, WriteFailed, Writes, WritingEnds}
 pub use Rattle.tta_load.specs.Held.{FileFails, HasText, Held, IsHeld, ReadFailed, ReadFails, limit, no_memory}
 pub use Rattle.tta_load.specs.Images.{IsImageFor, RefusesImage}
-pub use Rattle.tta_load.specs.Inputs.{Fills, HasInput, IsInput, IsStream, RefusesInput, RefusesStream}
+pub use Rattle.tta_load.specs.Inputs.{Fills, GivenFails, HasInput, IsInput, IsStream, RefusesInput, RefusesStream}
 pub use Rattle.tta_load.specs.Machines.{HasMachine, IsBadMachine, IsDescribed, RefusesMachine}
 pub use Rattle.tta_load.specs.Pairs.{HasPair, PairFails}
 pub use Rattle.tta_load.specs.Programs.{IsBadProgram, IsOutside, IsProgramFor, IsProgramIn, RefusesProgram, RefusesProgramFor}

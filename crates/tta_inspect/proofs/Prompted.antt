@@ -1,29 +1,15 @@
 -- What a session at a prompt is over, and what the clause of the command says at a status.
-use Rattle.std.proofs.Common.{◌≡◌, ◌<◌, ◌^◌, ℕ, List, [], Option, Some, None, sym, subst, inl, inr, arith}
-use Rattle.tta_inspect.specs.Cited.{World, IsUntouched, Output, Come, Units, Machine, Whole, start, Stands, Session', MachineFile, Status, HasText, IsTaken, ReadFails, HasMachine, RefusesMachine, IsImageFor, RefusesImage, Fills, RefusesInput, RefusesStream, HasPair, ReadsPair, HasGiven, HasThree, OfNamed}
+use Rattle.std.proofs.Common.{◌≡◌, ◌<◌, ◌^◌, ℕ, List, [], Option, sym, subst, inl, inr, arith}
+use Rattle.tta_inspect.specs.Cited.{World, IsUntouched, Output, Come, Units, Machine, Whole, start, Stands, Session', MachineFile, Status, HasText, ReadFails, HasMachine, RefusesMachine, IsImageFor, RefusesImage, RefusesInput, RefusesStream, HasPair, ReadsPair, HasGiven, HasThree, OfNamed}
 use Rattle.tta_ports.proofs.Worlds.{same_world}
 use Rattle.tta_sim.specs.Held.{Held}
 use Rattle.tta_load.proofs.Endings.{pair_held}
 use Rattle.tta_load.proofs.Stages.{pair_stages, pair_at}
-use Rattle.tta_inspect.specs.Prompts.{StreamFails, GivenFails, ReadsStream, ReadsGiven, ReadsFiles, FilesFail, IsIdle, SessionEnds, OpensPrompt, PromptFault}
+use Rattle.tta_load.proofs.RunStages.{stream_at, stream_stages}
+use Rattle.tta_load.specs.Inputs.{GivenFails, ReadsGiven}
+use Rattle.tta_inspect.specs.Prompts.{ReadsFiles, FilesFail, IsIdle, SessionEnds, OpensPrompt, PromptFault}
 
 -- ---- what is read
-
--- data words that were taken, and the words of the input
-pub given_taken : (space : ℕ) (IN : List ℕ) (STREAM : Option (List ℕ)) (memory words : List ℕ) (before between after : World)
-    → IsTaken (Fills space) IN memory before between → ReadsStream STREAM words between after → ReadsGiven space IN STREAM memory words before after
-given_taken space IN STREAM memory words before between after input stream =
-    let same = subst (λ w. ReadsStream STREAM words w after) (same_world before between input.untouched) stream in
-    record { input = input.held; stream = same.is; untouched = same.untouched }
-
--- data words that were taken, and an input that was not
-pub given_refused : (space : ℕ) (IN : List ℕ) (STREAM : Option (List ℕ)) (memory : List ℕ) (before between after : World) (s : Status)
-    → IsTaken (Fills space) IN memory before between → StreamFails STREAM between after s → GivenFails space IN STREAM before after s
-given_refused space IN STREAM memory before between after s input fails =
-    inr (
-      record { value = memory; held = input.held },
-      subst (λ w. StreamFails STREAM w after s) (same_world before between input.untouched) fails,
-    )
 
 module _ (u : Units) (M IMG IN : List ℕ) (STREAM : Option (List ℕ)) (file : MachineFile) (whole : Whole) where
   -- a machine and an image that were taken, and what the run is given
@@ -35,11 +21,11 @@ module _ (u : Units) (M IMG IN : List ℕ) (STREAM : Option (List ℕ)) (file : 
 
   -- the same where that is refused
   pub files_refused : (before between after : World) (s : Status) → ReadsPair u IsImageFor M IMG file whole before between
-      → GivenFails file.machine.data_words IN STREAM between after s → FilesFail u M IMG IN STREAM before after s
+      → GivenFails 4 file.machine.data_words IN STREAM between after s → FilesFail u M IMG IN STREAM before after s
   files_refused before between after s pair fails =
       inr (
         pair_held u IsImageFor M IMG file whole before between pair,
-        subst (λ w. GivenFails file.machine.data_words IN STREAM w after s) (same_world before between pair.untouched) fails,
+        subst (λ w. GivenFails 4 file.machine.data_words IN STREAM w after s) (same_world before between pair.untouched) fails,
       )
 
   -- a session over what was read is how the command ends
@@ -64,24 +50,6 @@ first_few h session m memory at is =
 
 -- ---- the stages
 
-pub stream_refused : (STREAM : Option (List ℕ)) (before after : World) (s : Status) → IsUntouched before after
-    → OfNamed STREAM (λ name. HasText before.contents name (λ bytes. RefusesStream bytes s)) → StreamFails STREAM before after s
-stream_refused None before after s same e = e
-stream_refused (Some name) before after s same e = inr (same, e)
-
-stream_stages : {G : Type 0} (STREAM : Option (List ℕ)) (before after : World) (s : Status)
-    → (OfNamed STREAM (λ name. ReadFails name 4 before after s) → G)
-    → (IsUntouched before after → OfNamed STREAM (λ name. HasText before.contents name (λ bytes. RefusesStream bytes s)) → G)
-    → StreamFails STREAM before after s → G
-stream_stages None before after s a b e = absurd e
-stream_stages (Some name) before after s a b (inl e) = a e
-stream_stages (Some name) before after s a b (inr e) = b e.0 e.1
-
-stream_at : (STREAM : Option (List ℕ)) (before after : World) (s : Status) (Fault : List ℕ → Type 0) (word : ℕ)
-    → ((k : ℕ) (n : List ℕ) → (word ≡ k) × Fault n → ReadFails n k before after s) → word ≡ 4 → OfNamed STREAM Fault → StreamFails STREAM before after s
-stream_at None before after s Fault word at is e = e
-stream_at (Some name) before after s Fault word at is e = inl (at 4 name (is, e))
-
 module _ (u : Units) (M IMG IN : List ℕ) (STREAM : Option (List ℕ)) (before after : World) (came comes : Come) (old new : Output) (s : Status) where
   -- where nothing came and nothing was put
   abbrev Idle : Type 0
@@ -104,7 +72,7 @@ module _ (u : Units) (M IMG IN : List ℕ) (STREAM : Option (List ℕ)) (before 
   stages a b c d e f g h i (inl (inl x, q)) = pair_stages u RefusesImage M IMG before after s a b c d x q
   stages a b c d e f g h i (inl (inr (pair, inl (inl x)), q)) = e pair x q
   stages a b c d e f g h i (inl (inr (pair, inl (inr x)), q)) = f pair x q
-  stages a b c d e f g h i (inl (inr (pair, inr (input, x)), q)) = stream_stages STREAM before after s (g (pair, input)) (h (pair, input)) x q
+  stages a b c d e f g h i (inl (inr (pair, inr (input, x)), q)) = stream_stages 4 STREAM before after s (g (pair, input)) (h (pair, input)) x q
   stages a b c d e f g h i (inr (pair, given, same, x)) = i pair given same x
 
   -- a file that is at fault
@@ -112,4 +80,4 @@ module _ (u : Units) (M IMG IN : List ℕ) (STREAM : Option (List ℕ)) (before 
       → PromptFault u before.contents M IMG IN STREAM Fault word → OpensPrompt u M IMG IN STREAM before after came comes old new s
   file_at Fault word at idle (inl a) = inl (inl (pair_at u RefusesImage M IMG before after s Fault word at a), idle)
   file_at Fault word at idle (inr (inl a)) = inl (inr (a.1, inl (inl (at 3 IN (a.0, a.2)))), idle)
-  file_at Fault word at idle (inr (inr a)) = inl (inr (a.1.0, inr (a.1.1, stream_at STREAM before after s Fault word at a.0 a.2)), idle)
+  file_at Fault word at idle (inr (inr a)) = inl (inr (a.1.0, inr (a.1.1, stream_at 4 STREAM before after s Fault word at a.0 a.2)), idle)

@@ -9,10 +9,10 @@ use Rattle.tta_inspect.specs.declared.subject.Subject.{Subject}
 use Rattle.tta_inspect.specs.declared.subject.Subject.TheVariants.{Code, Program}
 use Rattle.tta_inspect.specs.Texts.{ShowsText, TextEndings}
 
--- The text of the circuit of a machine with code and data, of this image: a module with the words of the code in it or in a file, which
--- tells the first fault or does not; or that file.
+-- The text of the circuit of a machine with code and data, of this image: a module that does these things, with the words of the code in
+-- it or in a file; or that file.
 abbrev pub circuit_text : Units → CircuitView → MachineFile → Whole → (image : List ℕ) → List ℕ
-circuit_text u (Module r faults) file whole image = headed_rtl u file.machine file.digest r faults image whole
+circuit_text u (Module r features) file whole image = headed_rtl u file.machine file.digest r features image whole
 circuit_text u CodeFile file whole image = headed_file file.machine file.digest image whole
 
 -- a text is that of the circuit of a machine with code and data

@@ -18,7 +18,7 @@ pub use Rattle.tta_load.specs.Endings.{HasThree, OfNamed, OfPair, PairFault, Run
 pub use Rattle.tta_load.specs.Ends.{IsUsage, Puts, TextEnds}
 pub use Rattle.tta_load.specs.Held.{FileFails, HasText, IsHeld, IsTaken, IsTooLong, MadeEnds, ReadFailed, ReadFails, TakesBytes, no_memory}
 pub use Rattle.tta_load.specs.Images.{IsImageFor, RefusesImage}
-pub use Rattle.tta_load.specs.Inputs.{Fills, HasInput, IsInput, IsStream, RefusesInput, RefusesStream}
+pub use Rattle.tta_load.specs.Inputs.{Fills, GivenFails, HasInput, IsInput, IsStream, ReadsGiven, RefusesInput, RefusesStream}
 pub use Rattle.tta_load.specs.Machines.{HasMachine, IsBadMachine, MachineFails, RefusesMachine}
 pub use Rattle.tta_load.specs.Pairs.{HasPair, PairFails, ReadsPair}
 pub use Rattle.tta_load.specs.Programs.{IsBadProgram, IsOutside, IsProgramFor, RefusesProgramFor}
@@ -28,6 +28,7 @@ pub use Rattle.tta_load.specs.declared.pair.CodePair.{CodePair}
 pub use Rattle.tta_load.specs.declared.status.Status.{Status}
 pub use Rattle.tta_hardware.specs.Hardware.{circuit_of, circuit_with}
 pub use Rattle.tta_header.specs.Header.{TellsImage, headed_file, headed_rtl}
+pub use Rattle.tta_header.specs.declared.features.Features.{Features}
 unfoldable pub use Rattle.tta_image.specs.Bits.{instruction_bits}
 pub use Rattle.tta_image.specs.Image.{Image, data_section}
 unfoldable pub use Rattle.tta_image.specs.Reading.{decoded_image}

@@ -1,5 +1,6 @@
 pub mod Cited
 pub mod Spans
+pub mod Marks
 pub mod Request
 pub mod Views
 pub mod Stages

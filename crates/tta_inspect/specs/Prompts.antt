@@ -1,48 +1,17 @@
 -- What `prompt` does, and why it does not.
-use Rattle.std.specs.Prelude.{◌≡◌, ◌⊎◌, ◌↔◌, ℕ, List, [], Option, None, Some, Result, Ok, Err}
-use Rattle.tta_inspect.specs.Cited.{input_of, stream_of, over, Store, World, IsUntouched, Output, IsQuiet, Come, Units, Machine, Whole, data_in, start, Refused, decoded_image, Debugged, Session', PromptError, LinesFailed, TooLong, NoMemory, SinkFailed, Prompts, MachineFile, Status, IsHeld, HasText, ReadFailed, IsTooLong, FileFails, IsBadMachine, IsImageFor, RefusesImage, Fills, RefusesInput, HasInput, IsStream, RefusesStream, HasPair, PairFails, ReadsPair, HasGiven, OfPair, PairFault, HasThree, OfNamed}
+use Rattle.std.specs.Prelude.{◌≡◌, ◌⊎◌, ◌↔◌, ℕ, List, [], Option, Result, Ok, Err}
+use Rattle.tta_inspect.specs.Cited.{input_of, stream_of, over, Store, World, IsUntouched, Output, IsQuiet, Come, Units, Machine, Whole, data_in, start, Refused, decoded_image, Debugged, Session', PromptError, LinesFailed, TooLong, NoMemory, SinkFailed, Prompts, MachineFile, Status, HasText, ReadFailed, IsTooLong, IsBadMachine, IsImageFor, RefusesImage, HasPair, PairFails, ReadsPair, HasGiven, OfPair, PairFault, HasThree, OfNamed, GivenFails, ReadsGiven}
 use Rattle.tta_code.specs.declared.code.Code.{Code}
 use Rattle.tta_load.specs.declared.status.Status.TheVariants as status
 use Rattle.tta_load.specs.Endings.{OfMachine}
 
 -- ---- what was read
 
--- why the input, which word 4 names where it is there, is not taken
-abbrev pub StreamFails : (STREAM : Option (List ℕ)) → (before after : World) → Status → Type 0
-StreamFails None before after s = ⊥
-StreamFails (Some name) before after s = FileFails RefusesStream name 4 before after s
-
--- why what the run is given is not taken: the words of the data space, which word 3 names, or after them those of the input
-abbrev pub GivenFails : (space : ℕ) → (IN : List ℕ) → (STREAM : Option (List ℕ)) → (before after : World) → Status → Type 0
-GivenFails space IN STREAM before after s =
-    FileFails (RefusesInput space) IN 3 before after s ⊎ (HasInput space before.contents IN × StreamFails STREAM before after s)
-
--- these are the words of the input, and no file was touched
-pub record ReadsStream (STREAM : Option (List ℕ)) (words : List ℕ) (before after : World) : Type 0 where
-  pub is : IsStream before.contents STREAM words
-  pub untouched : IsUntouched before after
-
--- the words of the input were read, or their file is refused
-abbrev pub StreamEnds : {T : Type 0} → (STREAM : Option (List ℕ)) → (before after : World) → (T → List ℕ) → Result T Status → Type 0
-StreamEnds STREAM before after items (Ok v) = ReadsStream STREAM (items v) before after
-StreamEnds STREAM before after items (Err s) = StreamFails STREAM before after s
-
--- what the run is given was read, and no file was touched
-pub record ReadsGiven (space : ℕ) (IN : List ℕ) (STREAM : Option (List ℕ)) (memory words : List ℕ) (before after : World) : Type 0 where
-  pub input : IsHeld (Fills space) before.contents IN memory
-  pub stream : IsStream before.contents STREAM words
-  pub untouched : IsUntouched before after
-
--- it was read, or a file of it is refused
-abbrev pub GivenEnds : {T : Type 0} → (space : ℕ) → (IN : List ℕ) → (STREAM : Option (List ℕ)) → (before after : World) → (memory words : T → List ℕ) → Result T Status → Type 0
-GivenEnds space IN STREAM before after memory words (Ok v) = ReadsGiven space IN STREAM (memory v) (words v) before after
-GivenEnds space IN STREAM before after memory words (Err s) = GivenFails space IN STREAM before after s
-
 -- why the files of a session are not taken: those of the machine and the image, or after them what the run is given
 abbrev pub FilesFail : Units → (M IMG IN : List ℕ) → (STREAM : Option (List ℕ)) → (before after : World) → Status → Type 0
 FilesFail u M IMG IN STREAM before after s =
     PairFails u RefusesImage M IMG before after s
-    ⊎ ((pair : HasPair u IsImageFor before.contents M IMG) × GivenFails pair.machine.value.machine.data_words IN STREAM before after s)
+    ⊎ ((pair : HasPair u IsImageFor before.contents M IMG) × GivenFails 4 pair.machine.value.machine.data_words IN STREAM before after s)
 
 -- all files were read, and none was touched
 pub record ReadsFiles (u : Units) (M IMG IN : List ℕ) (STREAM : Option (List ℕ)) (file : MachineFile) (whole : Whole) (memory words : List ℕ)

@@ -169,7 +169,8 @@ fn carry_out<F: Files, L: Lines, S: Sink>(
 /// Verilog; and `rtl M P` that with the code that `build` makes of that program, and its data. With the word
 /// `rom=file` behind it the module takes the words of the code from the file `code.hex`, which is what is
 /// output with `rom=words`. With `faults`, which may stand before `rom=file`, the module tells the first
-/// fault and stops there.
+/// fault and stops there. With `modules`, which may stand there too, divisions and operations of one's own
+/// that take several cycles are made by modules beside it.
 /// `rtl net DEPTHS LINKS M IMG IN ..` outputs the circuits of cores, three files for each, that are joined
 /// by queues as the links of the file LINKS say, with as many words in each queue as DEPTHS says.
 ///

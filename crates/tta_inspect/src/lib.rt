@@ -3,18 +3,19 @@
 #![tactic(auto)]
 
 mod command;
-mod command_words;
 mod compiled;
 mod costing;
 mod depths;
 mod drawing;
 mod joining;
 mod laws;
-mod more;
+mod marks;
 mod names;
 mod prompting;
 mod remarking;
 mod request;
+mod rtl_words;
+mod run_words;
 mod running;
 mod staging;
 mod subject;

@@ -1,80 +1,24 @@
 //! The command `prompt`: a session of the debugger over a run of the code of an image, whose commands come
 //! line by line.
 
-ghost use Rattle.std.specs.Prelude.{◌≡◌, ◌<◌, ◌≤◌, ◌^◌, length, option_map, IfOk};
+ghost use Rattle.std.specs.Prelude.{◌≡◌, ◌<◌, ◌^◌, length, option_map, IfOk};
 ghost use Rattle.tta_ops.specs.Set.{stated};
 ghost use Rattle.tta_code.specs.Legal.{IsLegalCode};
 ghost use Rattle.tta_sim.specs.Held.{IsRunOf};
 ghost use Rattle.tta_debug.specs.Debugged.{Debugged};
 ghost use Rattle.tta_debug.specs.Sessions.{Follows};
-ghost use Rattle.tta_load.specs.Held.{FileEnds, TakesBytes};
-ghost use Rattle.tta_load.specs.Inputs.{IsInput, RefusesStream};
-ghost use Rattle.tta_inspect.specs.Prompts.{FilesEnd, GivenEnds, OpensPrompt, StreamEnds};
+ghost use Rattle.tta_inspect.specs.Prompts.{FilesEnd, OpensPrompt};
 ghost use Rattle.tta_inspect.specs.Prompts.{EndsAs, SessionEnds};
 
 use crate::names::PromptRequest;
 use crate::running::load_code;
 use std::alloc::Global;
 use tta_debug::{Basis, Session};
-use tta_input::{InputError, read_stream};
-use tta_load::{CodePair, Given, Status, data_words, image_pair, input_file, read_file};
+use tta_load::{CodePair, Given, Status, data_words, given_files, image_pair};
 use tta_ops::UnitSet;
 use tta_ports::{Files, Sink};
 use tta_prompt::{PromptError, run_prompt};
 use tta_stdin::Lines;
-
-/// The words of an input that a file's bytes give.
-fn words_of(alloc: Global, bytes: &[u8]) -> Result<Vec<u32>, Status>
-    requires { length bytes.now ≤ 2 ^ 24 }
-    ensures { TakesBytes IsInput RefusesStream bytes.now (λ v. v.items) result }
-{
-    match read_stream(alloc, bytes) {
-        Ok(words) => Ok(words),
-        Err(InputError::Refused { line }) => Err(Status::BadStream { line }),
-        Err(InputError::NoMemory) => Err(Status::NoMemory),
-    }
-}
-
-/// The words of the file of the input that word 4 names.
-fn named_stream<F: Files>(alloc: Global, files: &mut F, name: &str) -> Result<Vec<u32>, Status>
-    ensures { FileEnds IsInput RefusesStream name.now 4
-        (F.world files.old) (F.world files.new) (λ v. v.items) result }
-{
-    let bytes = read_file(files, name, 4)?;
-    words_of(alloc, bytes.as_slice())
-}
-
-/// The words of the input: those of its file, or none where no file is named.
-fn stream_words<F: Files>(
-    alloc: Global,
-    files: &mut F,
-    stream: Option<&str>,
-) -> Result<Vec<u32>, Status>
-    ensures { StreamEnds (option_map (λ s. s.now) stream.entry)
-        (F.world files.old) (F.world files.new) (λ v. v.items) result }
-{
-    match stream {
-        Some(name) => named_stream(alloc, files, name),
-        None => Ok(Vec::new(alloc)),
-    }
-}
-
-/// The data words of the file that word 3 names, as many as the space has, and the words of the input.
-fn run_words<F: Files>(
-    alloc: Global,
-    files: &mut F,
-    request: &PromptRequest<'_>,
-    space: u32,
-) -> Result<Given, Status>
-    ensures ends { GivenEnds space request.now.input.now
-        (option_map (λ s. s.now) request.now.stream) (F.world files.old) (F.world files.new)
-        (λ g. g.memory.items) (λ g. g.words.items) result }
-    ensures whole { IfOk result (λ g. length g.memory.items ≡ space) }
-{
-    let memory = input_file(alloc, files, request.input, 3, space)?;
-    let words = stream_words(alloc, files, request.stream)?;
-    Ok(Given { memory, words })
-}
 
 /// What a session is over: code for a machine, and what its run is given.
 #[derive(Drop)]
@@ -101,7 +45,8 @@ fn read_all<F: Files>(
         (λ r. IsLegalCode r.pair.file.machine r.pair.whole.code) }
 {
     let pair = image_pair(alloc, units, files, request.machine, request.image)?;
-    let given = run_words(alloc, files, request, data_words(&pair.file.machine))?;
+    let space = data_words(&pair.file.machine);
+    let given = given_files(alloc, files, request.input, request.stream, 4, space)?;
     Ok(Ready { pair, given })
 }
 

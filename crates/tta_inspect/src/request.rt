@@ -2,22 +2,15 @@
 
 ghost use Rattle.std.specs.Prelude.{◌≡◌, ◌∷◌, [], map, option_map};
 ghost use Rattle.std.specs.String.{string_bytes};
-ghost use Rattle.tta_inspect.specs.Request.{asked, is_named, page_request, pair_request};
-ghost use Rattle.tta_inspect.specs.Request.{four_request, mark_request, marks_request, prompt_request};
-ghost use Rattle.tta_inspect.specs.Request.{request_of, run_request, three_request};
+ghost use Rattle.tta_inspect.specs.Request as r;
 
-use crate::command_words::{
-    asks_for_both, circuit_view_of, is_cost, is_info, is_picture, is_prompt, is_rtl, is_stages,
-    is_view, run_view_of, view_of,
-};
-use crate::more::of_more;
 use crate::names::{
     CostRequest, InfoRequest, MachineRequest, NetRequest, PictureRequest, PromptRequest,
     RtlRequest, RunRequest, StagesRequest,
 };
-use crate::view::{CircuitView, StagesView};
-use tta_load::bound_of;
-use tta_rtl::Rom;
+use crate::rtl_words::of_rtl;
+use crate::run_words::{of_play, of_run};
+use crate::view::{RunView, StagesView, View};
 
 /// What is asked for: a view of a machine, what is told of an image for a machine, the picture of such
 /// code or of that of a program, a view of a run of it, a session at a prompt over a run of code, a view
@@ -36,185 +29,154 @@ pub enum Request<'w> {
     Net(NetRequest<'w>),
 }
 
+/// Whether a word is the name of a command that `show` carries out.
+fn is_name(name: &str) -> bool
+    ensures { result ≡ r.is_named (name.now ∷ []) }
+{
+    name == "picture"
+        || name == "info"
+        || name == "cost"
+        || name == "profile"
+        || name == "play"
+        || name == "waves"
+        || name == "prompt"
+        || name == "stages"
+        || name == "rtl"
+}
+
 /// Whether the words begin with the name of a command that `show` carries out.
 pub fn is_named(words: &Vec<String>) -> bool
-    ensures { result ≡ is_named (map (λ w. string_bytes w) words.now.items) }
+    ensures { result ≡ r.is_named (map (λ w. string_bytes w) words.now.items) }
 {
     match words.as_slice() {
-        [word, ..] => {
-            is_view(word.as_str())
-                || is_prompt(word.as_str())
-                || is_stages(word.as_str())
-                || is_rtl(word.as_str())
-        }
+        [name, ..] => is_name(name.as_str()),
         _ => false,
     }
 }
 
-/// The request of the name of a command with a bound.
-fn of_run<'w>(
-    word: &str,
-    machine: &'w str,
-    subject: &'w str,
-    input: &'w str,
-    last: &str,
-    stream: Option<&'w str>,
-) -> Option<Request<'w>>
-    ensures { option_map asked result ≡ run_request word.now
-        machine.now subject.now input.now last.now (option_map (λ s. s.now) stream.entry) }
+/// `picture`: a machine, or a machine and an image or a program.
+fn of_picture<'w>(words: &'w [String]) -> Option<Request<'w>>
+    ensures { option_map r.asked result
+        ≡ r.picture_request (map (λ w. string_bytes w) words.now) }
 {
-    let view = run_view_of(word)?;
-    let bound = bound_of(last.as_bytes())?;
-    Some(Request::Run(RunRequest {
-        view,
-        machine,
-        subject,
-        input,
-        stream,
-        bound,
-    }))
+    match words {
+        [machine] => Some(Request::Machine(MachineRequest {
+            view: View::Picture,
+            machine,
+        })),
+        [machine, subject] => Some(Request::Picture(PictureRequest { machine, subject })),
+        _ => None,
+    }
 }
 
-/// The request of the name of a command with no bound.
-fn of_prompt<'w>(
-    word: &str,
-    machine: &'w str,
-    image: &'w str,
-    input: &'w str,
-    stream: Option<&'w str>,
-) -> Option<Request<'w>>
-    ensures { option_map asked result ≡ prompt_request word.now
-        machine.now image.now input.now (option_map (λ s. s.now) stream.entry) }
+/// `info`: a machine, or a machine and an image.
+fn of_info<'w>(words: &'w [String]) -> Option<Request<'w>>
+    ensures { option_map r.asked result
+        ≡ r.info_request (map (λ w. string_bytes w) words.now) }
 {
-    if !is_prompt(word) {
-        return None;
+    match words {
+        [machine] => Some(Request::Machine(MachineRequest {
+            view: View::Info,
+            machine,
+        })),
+        [machine, image] => Some(Request::Info(InfoRequest { machine, image })),
+        _ => None,
     }
-    Some(Request::Prompt(PromptRequest {
-        machine,
-        image,
-        input,
-        stream,
-    }))
 }
 
-/// The request of the name of the command that shows stages, with a word after its two files.
-fn of_page<'w>(machine: &'w str, program: &'w str, mark: &str) -> Option<Request<'w>>
-    ensures { option_map asked result ≡ page_request machine.now program.now mark.now }
+/// `cost`: a machine, or a machine and an image or a program.
+fn of_cost<'w>(words: &'w [String]) -> Option<Request<'w>>
+    ensures { option_map r.asked result
+        ≡ r.cost_request (map (λ w. string_bytes w) words.now) }
 {
-    if mark != "--html" {
-        return None;
+    match words {
+        [machine] => Some(Request::Machine(MachineRequest {
+            view: View::Cost,
+            machine,
+        })),
+        [machine, subject] => Some(Request::Cost(CostRequest { machine, subject })),
+        _ => None,
     }
-    Some(Request::Stages(StagesRequest {
-        view: StagesView::Page,
-        machine,
-        program,
-    }))
 }
 
-/// The request of the name of the command that shows a circuit, with a word after its two files.
-fn of_mark<'w>(machine: &'w str, subject: &'w str, mark: &str) -> Option<Request<'w>>
-    ensures { option_map asked result ≡ mark_request machine.now subject.now mark.now }
+/// `stages`: a machine and a program, and `--html` behind them for a page.
+fn of_stages<'w>(words: &'w [String]) -> Option<Request<'w>>
+    ensures { option_map r.asked result
+        ≡ r.stages_request (map (λ w. string_bytes w) words.now) }
 {
-    let view = circuit_view_of(mark)?;
-    Some(Request::Rtl(RtlRequest {
-        view,
-        machine,
-        subject,
-    }))
-}
-
-/// The same with two words after them.
-fn of_marks<'w>(machine: &'w str, subject: &'w str, mark: &str, last: &str) -> Option<Request<'w>>
-    ensures { option_map asked result
-        ≡ marks_request machine.now subject.now mark.now last.now }
-{
-    if !asks_for_both(mark, last) {
-        return None;
-    }
-    Some(Request::Rtl(RtlRequest {
-        view: CircuitView::Module {
-            rom: Rom::File,
-            faults: true,
-        },
-        machine,
-        subject,
-    }))
-}
-
-/// The request of four words: a page of stages, a circuit with a word that says how it is made, or a
-/// session at a prompt.
-fn of_four<'w>(word: &str, machine: &'w str, second: &'w str, input: &'w str) -> Option<Request<'w>>
-    ensures { option_map asked result
-        ≡ three_request word.now machine.now second.now input.now }
-{
-    if is_stages(word) {
-        return of_page(machine, second, input);
-    }
-    if is_rtl(word) {
-        return of_mark(machine, second, input);
-    }
-    of_prompt(word, machine, second, input, None)
-}
-
-/// The request of five words: a session at a prompt with an input, a circuit with two words that say how
-/// it is made, or a view of a run without an input.
-fn of_five<'w>(
-    word: &str,
-    machine: &'w str,
-    second: &'w str,
-    input: &'w str,
-    last: &'w str,
-) -> Option<Request<'w>>
-    ensures { option_map asked result
-        ≡ four_request word.now machine.now second.now input.now last.now }
-{
-    if is_prompt(word) {
-        return of_prompt(word, machine, second, input, Some(last));
-    }
-    if is_rtl(word) {
-        return of_marks(machine, second, input, last);
-    }
-    of_run(word, machine, second, input, last, None)
-}
-
-/// The request of the name of a command with two files.
-fn of_pair<'w>(word: &str, machine: &'w str, second: &'w str) -> Option<Request<'w>>
-    ensures { option_map asked result ≡ pair_request word.now machine.now second.now }
-{
-    if is_stages(word) {
-        return Some(Request::Stages(StagesRequest {
+    match words {
+        [machine, program] => Some(Request::Stages(StagesRequest {
             view: StagesView::Lines,
             machine,
-            program: second,
-        }));
+            program,
+        })),
+        [machine, program, mark] => {
+            if mark.as_str() != "--html" {
+                return None;
+            }
+            Some(Request::Stages(StagesRequest {
+                view: StagesView::Page,
+                machine,
+                program,
+            }))
+        }
+        _ => None,
     }
-    if is_rtl(word) {
-        return Some(Request::Rtl(RtlRequest {
-            view: CircuitView::Module {
-                rom: Rom::Text,
-                faults: false,
-            },
+}
+
+/// `prompt`: a machine, an image and data words, after which the file of an input may be named.
+fn of_prompt<'w>(words: &'w [String]) -> Option<Request<'w>>
+    ensures { option_map r.asked result
+        ≡ r.prompt_request (map (λ w. string_bytes w) words.now) }
+{
+    match words {
+        [machine, image, input] => Some(Request::Prompt(PromptRequest {
             machine,
-            subject: second,
-        }));
+            image,
+            input,
+            stream: None,
+        })),
+        [machine, image, input, stream] => Some(Request::Prompt(PromptRequest {
+            machine,
+            image,
+            input,
+            stream: Some(stream.as_str()),
+        })),
+        _ => None,
     }
-    if is_picture(word) {
-        return Some(Request::Picture(PictureRequest {
-            machine,
-            subject: second,
-        }));
+}
+
+/// The request of a command by its name and the words after it.
+fn named<'w>(name: &str, words: &'w [String]) -> Option<Request<'w>>
+    ensures { option_map r.asked result
+        ≡ r.named_request name.now (map (λ w. string_bytes w) words.now) }
+{
+    if name == "picture" {
+        return of_picture(words);
     }
-    if is_info(word) {
-        return Some(Request::Info(InfoRequest {
-            machine,
-            image: second,
-        }));
+    if name == "info" {
+        return of_info(words);
     }
-    if is_cost(word) {
-        return Some(Request::Cost(CostRequest {
-            machine,
-            subject: second,
-        }));
+    if name == "cost" {
+        return of_cost(words);
+    }
+    if name == "profile" {
+        return of_run(RunView::Profile, words);
+    }
+    if name == "play" {
+        return of_play(words);
+    }
+    if name == "waves" {
+        return of_run(RunView::Waves, words);
+    }
+    if name == "prompt" {
+        return of_prompt(words);
+    }
+    if name == "stages" {
+        return of_stages(words);
+    }
+    if name == "rtl" {
+        return of_rtl(words);
     }
     None
 }
@@ -223,22 +185,12 @@ impl<'w> Request<'w> {
     /// What the words ask for, the first of them the command's name. `None` where they are no
     /// command.
     pub fn of(words: &'w Vec<String>) -> Option<Request<'w>>
-        ensures { option_map asked result
-            ≡ request_of (map (λ w. string_bytes w) words.now.items) }
+        ensures { option_map r.asked result
+            ≡ r.request_of (map (λ w. string_bytes w) words.now.items) }
     {
         match words.as_slice() {
-            [word, machine] => {
-                let view = view_of(word.as_str())?;
-                let machine = machine.as_str();
-                Some(Request::Machine(MachineRequest { view, machine }))
-            }
-            [word, machine, second] => of_pair(word, machine, second),
-            [word, machine, second, input] => of_four(word, machine, second, input),
-            [word, machine, second, input, last] => of_five(word, machine, second, input, last),
-            [word, machine, second, input, last, stream] => {
-                of_run(word, machine, second, input, last, Some(stream.as_str()))
-            }
-            rest => of_more(rest),
+            [name, rest @ ..] => named(name, rest),
+            _ => None,
         }
     }
 }

@@ -189,7 +189,7 @@ fn run_pair<F: Files, S: Sink>(
         (F.world files.old) (F.world files.new) (S.output sink.old) (S.output sink.new) result }
 {
     let space = data_words(&pair.file.machine);
-    match given_files(alloc, files, request.input, request.stream, space) {
+    match given_files(alloc, files, request.input, request.stream, 5, space) {
         Ok(given) => {
             let made = text_of_subject(alloc, units, pair, given, request);
             put_made(sink, made)

@@ -1,5 +1,6 @@
 //! What is shown of a machine, of code for it, or of a run of such code.
 
+use tta_header::Features;
 use tta_rtl::Rom;
 
 /// A kind of text of a machine, or of code with data for it.
@@ -25,8 +26,8 @@ pub enum StagesView {
 /// A kind of text of the circuit of a machine with code.
 #[derive(Clone, Copy)]
 pub enum CircuitView {
-    /// A module, with the words of the code in it or in a file, which tells the first fault or does not.
-    Module { rom: Rom, faults: bool },
+    /// A module that does these things, with the words of the code in it or in a file.
+    Module { rom: Rom, features: Features },
     /// The file of the words of the code.
     CodeFile,
 }

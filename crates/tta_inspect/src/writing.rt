@@ -44,7 +44,7 @@ fn write_view(
         whole,
     };
     match view {
-        CircuitView::Module { rom, faults } => write_headed_rtl(alloc, units, rom, faults, &of),
+        CircuitView::Module { rom, features } => write_headed_rtl(alloc, units, rom, features, &of),
         CircuitView::CodeFile => write_headed_file(alloc, &of),
     }
 }

@@ -31,18 +31,18 @@ alone (Some name) e = e
 
 -- ---- the stages of what a run is given
 
-pub stream_refused : (STREAM : Option (List ℕ)) (before after : World) (s : Status) → IsUntouched before after
-    → OfNamed STREAM (λ name. HasText before.contents name (λ bytes. RefusesStream bytes s)) → StreamFails STREAM before after s
-stream_refused None before after s same e = e
-stream_refused (Some name) before after s same e = inr (same, e)
+pub stream_refused : (number : ℕ) (STREAM : Option (List ℕ)) (before after : World) (s : Status) → IsUntouched before after
+    → OfNamed STREAM (λ name. HasText before.contents name (λ bytes. RefusesStream bytes s)) → StreamFails number STREAM before after s
+stream_refused number None before after s same e = e
+stream_refused number (Some name) before after s same e = inr (same, e)
 
-pub stream_stages : {G : Type 0} (STREAM : Option (List ℕ)) (before after : World) (s : Status)
-    → (OfNamed STREAM (λ name. ReadFails name 5 before after s) → G)
+pub stream_stages : {G : Type 0} (number : ℕ) (STREAM : Option (List ℕ)) (before after : World) (s : Status)
+    → (OfNamed STREAM (λ name. ReadFails name number before after s) → G)
     → (IsUntouched before after → OfNamed STREAM (λ name. HasText before.contents name (λ bytes. RefusesStream bytes s)) → G)
-    → StreamFails STREAM before after s → G
-stream_stages None before after s a b e = absurd e
-stream_stages (Some name) before after s a b (inl e) = a e
-stream_stages (Some name) before after s a b (inr e) = b e.0 e.1
+    → StreamFails number STREAM before after s → G
+stream_stages number None before after s a b e = absurd e
+stream_stages number (Some name) before after s a b (inl e) = a e
+stream_stages number (Some name) before after s a b (inr e) = b e.0 e.1
 
 -- ---- those of a command that runs a pair
 
@@ -73,14 +73,15 @@ run_stages u Says Refuses Reports M name IN STREAM before after old new s G a b 
 run_stages u Says Refuses Reports M name IN STREAM before after old new s G a b c d e f g h i (inr (pair, inl (inl (inl x), q))) = e pair x q
 run_stages u Says Refuses Reports M name IN STREAM before after old new s G a b c d e f g h i (inr (pair, inl (inl (inr x), q))) = f pair x q
 run_stages u Says Refuses Reports M name IN STREAM before after old new s G a b c d e f g h i (inr (pair, inl (inr (input, x), q))) =
-    stream_stages STREAM before after s (g (pair, input)) (h (pair, input)) x q
+    stream_stages 5 STREAM before after s (g (pair, input)) (h (pair, input)) x q
 run_stages u Says Refuses Reports M name IN STREAM before after old new s G a b c d e f g h i (inr (pair, inr (given, same, x))) = i pair given same x
 
 -- a file of a run that is at fault
-pub stream_at : (STREAM : Option (List ℕ)) (before after : World) (s : Status) (Fault : List ℕ → Type 0) (word : ℕ)
-    → ((k : ℕ) (n : List ℕ) → (word ≡ k) × Fault n → ReadFails n k before after s) → word ≡ 5 → OfNamed STREAM Fault → StreamFails STREAM before after s
-stream_at None before after s Fault word at is e = e
-stream_at (Some name) before after s Fault word at is e = inl (at 5 name (is, e))
+pub stream_at : (number : ℕ) (STREAM : Option (List ℕ)) (before after : World) (s : Status) (Fault : List ℕ → Type 0) (word : ℕ)
+    → ((k : ℕ) (n : List ℕ) → (word ≡ k) × Fault n → ReadFails n k before after s) → word ≡ number → OfNamed STREAM Fault
+    → StreamFails number STREAM before after s
+stream_at number None before after s Fault word at is e = e
+stream_at number (Some name) before after s Fault word at is e = inl (at number name (is, e))
 
 pub run_at : {V : Type 0} (u : Units) (Says : MachineFile → List ℕ → V → Type 0) (Refuses : MachineFile → List ℕ → Status → Type 0)
     (Reports : MachineFile → V → (memory words : List ℕ) → (old new : Output) → Status → Type 0) (M name IN : List ℕ)
@@ -92,4 +93,4 @@ run_at u Says Refuses Reports M name IN STREAM before after old new s Fault word
 run_at u Says Refuses Reports M name IN STREAM before after old new s Fault word at quiet (inr (inl a)) =
     inr (a.1, inl (inl (inl (at 3 IN (a.0, a.2))), quiet))
 run_at u Says Refuses Reports M name IN STREAM before after old new s Fault word at quiet (inr (inr a)) =
-    inr (a.1.0, inl (inr (a.1.1, stream_at STREAM before after s Fault word at a.0 a.2), quiet))
+    inr (a.1.0, inl (inr (a.1.1, stream_at 5 STREAM before after s Fault word at a.0 a.2), quiet))

@@ -46,10 +46,10 @@ given_taken space IN STREAM memory words before between after input stream =
     record { input = input.held; stream = same.is; untouched = same.untouched }
 
 -- data words that were taken, and an input that was not
-pub given_refused : (space : ℕ) (IN : List ℕ) (STREAM : Option (List ℕ)) (memory : List ℕ) (before between after : World) (s : Status)
-    → IsTaken (Fills space) IN memory before between → StreamFails STREAM between after s → GivenFails space IN STREAM before after s
-given_refused space IN STREAM memory before between after s input fails =
+pub given_refused : (word space : ℕ) (IN : List ℕ) (STREAM : Option (List ℕ)) (memory : List ℕ) (before between after : World) (s : Status)
+    → IsTaken (Fills space) IN memory before between → StreamFails word STREAM between after s → GivenFails word space IN STREAM before after s
+given_refused word space IN STREAM memory before between after s input fails =
     inr (
       record { value = memory; held = input.held },
-      subst (λ w. StreamFails STREAM w after s) (same_world before between input.untouched) fails,
+      subst (λ w. StreamFails word STREAM w after s) (same_world before between input.untouched) fails,
     )

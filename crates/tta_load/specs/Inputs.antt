@@ -39,10 +39,10 @@ pub record HasStream (files : Option Store) (STREAM : Option (List ℕ)) : Type 
   pub words : List ℕ
   pub is : IsStream files STREAM words
 
--- why the input, which word 5 names where it is there, is not taken
-abbrev pub StreamFails : (STREAM : Option (List ℕ)) → (before after : World) → Status → Type 0
-StreamFails None before after s = ⊥
-StreamFails (Some name) before after s = FileFails RefusesStream name 5 before after s
+-- why the input, which a word of this number names where it is there, is not taken
+abbrev pub StreamFails : (word : ℕ) → (STREAM : Option (List ℕ)) → (before after : World) → Status → Type 0
+StreamFails word None before after s = ⊥
+StreamFails word (Some name) before after s = FileFails RefusesStream name word before after s
 
 -- these are the words of the input, and no file was touched
 pub record ReadsStream (STREAM : Option (List ℕ)) (words : List ℕ) (before after : World) : Type 0 where
@@ -50,14 +50,15 @@ pub record ReadsStream (STREAM : Option (List ℕ)) (words : List ℕ) (before a
   pub untouched : IsUntouched before after
 
 -- the words of the input were read, or their file is refused
-abbrev pub StreamEnds : {T : Type 0} → (STREAM : Option (List ℕ)) → (before after : World) → (T → List ℕ) → Result T Status → Type 0
-StreamEnds STREAM before after items (Ok v) = ReadsStream STREAM (items v) before after
-StreamEnds STREAM before after items (Err s) = StreamFails STREAM before after s
+abbrev pub StreamEnds : {T : Type 0} → (word : ℕ) → (STREAM : Option (List ℕ)) → (before after : World) → (T → List ℕ) → Result T Status → Type 0
+StreamEnds word STREAM before after items (Ok v) = ReadsStream STREAM (items v) before after
+StreamEnds word STREAM before after items (Err s) = StreamFails word STREAM before after s
 
--- why what a run is given is not taken: the words of the data space, which word 3 names, or after them those of the input
-abbrev pub GivenFails : (space : ℕ) → (IN : List ℕ) → (STREAM : Option (List ℕ)) → (before after : World) → Status → Type 0
-GivenFails space IN STREAM before after s =
-    FileFails (RefusesInput space) IN 3 before after s ⊎ (HasInput space before.contents IN × StreamFails STREAM before after s)
+-- why what a run is given is not taken: the words of the data space, which word 3 names, or after them those of the input, which a
+-- word of this number names
+abbrev pub GivenFails : (word space : ℕ) → (IN : List ℕ) → (STREAM : Option (List ℕ)) → (before after : World) → Status → Type 0
+GivenFails word space IN STREAM before after s =
+    FileFails (RefusesInput space) IN 3 before after s ⊎ (HasInput space before.contents IN × StreamFails word STREAM before after s)
 
 -- these are the words of the data space and of the input, and no file was touched
 pub record ReadsGiven (space : ℕ) (IN : List ℕ) (STREAM : Option (List ℕ)) (memory words : List ℕ) (before after : World) : Type 0 where
@@ -66,6 +67,7 @@ pub record ReadsGiven (space : ℕ) (IN : List ℕ) (STREAM : Option (List ℕ))
   pub untouched : IsUntouched before after
 
 -- the words that a run is given were read, or a file of them is refused
-abbrev pub GivenEnds : {T : Type 0} → (space : ℕ) → (IN : List ℕ) → (STREAM : Option (List ℕ)) → (before after : World) → (memory words : T → List ℕ) → Result T Status → Type 0
-GivenEnds space IN STREAM before after memory words (Ok v) = ReadsGiven space IN STREAM (memory v) (words v) before after
-GivenEnds space IN STREAM before after memory words (Err s) = GivenFails space IN STREAM before after s
+abbrev pub GivenEnds : {T : Type 0} → (word space : ℕ) → (IN : List ℕ) → (STREAM : Option (List ℕ)) → (before after : World)
+    → (memory words : T → List ℕ) → Result T Status → Type 0
+GivenEnds word space IN STREAM before after memory words (Ok v) = ReadsGiven space IN STREAM (memory v) (words v) before after
+GivenEnds word space IN STREAM before after memory words (Err s) = GivenFails word space IN STREAM before after s

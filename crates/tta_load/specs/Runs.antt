@@ -21,7 +21,7 @@ pub record HasGiven (space : ℕ) (files : Option Store) (IN : List ℕ) (STREAM
 abbrev pub GivenRuns : (space : ℕ) → (Reports : (memory words : List ℕ) → (old new : Output) → Status → Type 0)
     → (IN : List ℕ) → (STREAM : Option (List ℕ)) → (before after : World) → (old new : Output) → Status → Type 0
 GivenRuns space Reports IN STREAM before after old new s =
-    (GivenFails space IN STREAM before after s × IsQuiet old new)
+    (GivenFails 5 space IN STREAM before after s × IsQuiet old new)
     ⊎ ((given : HasGiven space before.contents IN STREAM)
     × IsUntouched before after × Reports given.input.value given.stream.words old new s)
 

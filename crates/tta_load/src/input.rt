@@ -52,26 +52,32 @@ pub fn input_file<F: Files>(
     words_of(alloc, bytes.as_slice(), space)
 }
 
-/// The words of the file of the input that word 5 names.
-fn named_stream<F: Files>(alloc: Global, files: &mut F, name: &str) -> Result<Vec<u32>, Status>
-    ensures { FileEnds IsInput RefusesStream name.now 5
+/// The words of the file of the input that a word names.
+fn named_stream<F: Files>(
+    alloc: Global,
+    files: &mut F,
+    name: &str,
+    word: u8,
+) -> Result<Vec<u32>, Status>
+    ensures { FileEnds IsInput RefusesStream name.now word
         (F.world files.old) (F.world files.new) (λ v. v.items) result }
 {
-    let bytes = read_file(files, name, 5)?;
+    let bytes = read_file(files, name, word)?;
     stream_of(alloc, bytes.as_slice())
 }
 
-/// The words of the input: those of its file, or none where no file is named.
+/// The words of the input: those of the file that a word names, or none where no file is named.
 pub fn stream_file<F: Files>(
     alloc: Global,
     files: &mut F,
     stream: Option<&str>,
+    word: u8,
 ) -> Result<Vec<u32>, Status>
-    ensures { StreamEnds (option_map (λ s. s.now) stream.entry)
+    ensures { StreamEnds word (option_map (λ s. s.now) stream.entry)
         (F.world files.old) (F.world files.new) (λ v. v.items) result }
 {
     match stream {
-        Some(name) => named_stream(alloc, files, name),
+        Some(name) => named_stream(alloc, files, name, word),
         None => Ok(Vec::new(alloc)),
     }
 }
@@ -83,21 +89,22 @@ pub struct Given {
     pub words: Vec<u32>,
 }
 
-/// The data words of the file that word 3 names, as many as the space has, and the words of the
-/// input.
+/// The data words of the file that word 3 names, as many as the space has, and the words of the input,
+/// whose file a word names where it is there.
 pub fn given_files<F: Files>(
     alloc: Global,
     files: &mut F,
     input: &str,
     stream: Option<&str>,
+    word: u8,
     space: u32,
 ) -> Result<Given, Status>
-    ensures ends { GivenEnds space input.now (option_map (λ s. s.now) stream.entry)
+    ensures ends { GivenEnds word space input.now (option_map (λ s. s.now) stream.entry)
         (F.world files.old) (F.world files.new)
         (λ g. g.memory.items) (λ g. g.words.items) result }
     ensures whole { IfOk result (λ g. length g.memory.items ≡ space) }
 {
     let memory = input_file(alloc, files, input, 3, space)?;
-    let words = stream_file(alloc, files, stream)?;
+    let words = stream_file(alloc, files, stream, word)?;
     Ok(Given { memory, words })
 }

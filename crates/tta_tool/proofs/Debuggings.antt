@@ -16,11 +16,11 @@ script_read SCRIPT STREAM script words before between after was stream =
 
 -- a script that was read, and an input that was not
 pub script_refused : (SCRIPT : List ℕ) (STREAM : Option (List ℕ)) (script : List ℕ) (before between after : World) (s : Status)
-    → WasRead SCRIPT script before between → StreamFails STREAM between after s
-    → ReadFails SCRIPT 4 before after s ⊎ (HasBytes before.contents SCRIPT × StreamFails STREAM before after s)
+    → WasRead SCRIPT script before between → StreamFails 5 STREAM between after s
+    → ReadFails SCRIPT 4 before after s ⊎ (HasBytes before.contents SCRIPT × StreamFails 5 STREAM before after s)
 script_refused SCRIPT STREAM script before between after s was fails = inr (
   record { bytes = script; holds = was.holds; short = was.short },
-  subst (λ w. StreamFails STREAM w after s) (same_world before between was.untouched) fails,
+  subst (λ w. StreamFails 5 STREAM w after s) (same_world before between was.untouched) fails,
 )
 
 -- data words that were read, and what comes after them
@@ -35,11 +35,11 @@ asked_read space IN SCRIPT STREAM memory script words before between after input
 -- data words that were read, and what comes after them was not
 pub asked_refused : (space : ℕ) (IN SCRIPT : List ℕ) (STREAM : Option (List ℕ)) (memory : List ℕ) (before between after : World) (s : Status)
     → IsTaken (Fills space) IN memory before between
-    → ReadFails SCRIPT 4 between after s ⊎ (HasBytes between.contents SCRIPT × StreamFails STREAM between after s)
+    → ReadFails SCRIPT 4 between after s ⊎ (HasBytes between.contents SCRIPT × StreamFails 5 STREAM between after s)
     → AskedFails space IN SCRIPT STREAM before after s
 asked_refused space IN SCRIPT STREAM memory before between after s input fails = inr (
   record { value = memory; held = input.held },
-  subst (λ w. ReadFails SCRIPT 4 w after s ⊎ (HasBytes w.contents SCRIPT × StreamFails STREAM w after s)) (same_world before between input.untouched) fails,
+  subst (λ w. ReadFails SCRIPT 4 w after s ⊎ (HasBytes w.contents SCRIPT × StreamFails 5 STREAM w after s)) (same_world before between input.untouched) fails,
 )
 
 -- ---- the session

@@ -26,7 +26,7 @@ abbrev pub AskedFails : (space : ℕ) → (IN SCRIPT : List ℕ) → (STREAM : O
 AskedFails space IN SCRIPT STREAM before after s =
     FileFails (RefusesInput space) IN 3 before after s
     ⊎ (HasInput space before.contents IN
-    × (ReadFails SCRIPT 4 before after s ⊎ (HasBytes before.contents SCRIPT × StreamFails STREAM before after s)))
+    × (ReadFails SCRIPT 4 before after s ⊎ (HasBytes before.contents SCRIPT × StreamFails 5 STREAM before after s)))
 
 -- ---- how the command ends
 
@@ -75,7 +75,7 @@ pub record ReadsScript (SCRIPT : List ℕ) (STREAM : Option (List ℕ)) (script 
 abbrev pub ScriptEnds : {T : Type 0} → (SCRIPT : List ℕ) → (STREAM : Option (List ℕ)) → (before after : World) → (script words : T → List ℕ) → Result T Status → Type 0
 ScriptEnds SCRIPT STREAM before after script words (Ok v) = ReadsScript SCRIPT STREAM (script v) (words v) before after
 ScriptEnds SCRIPT STREAM before after script words (Err s) =
-    ReadFails SCRIPT 4 before after s ⊎ (HasBytes before.contents SCRIPT × StreamFails STREAM before after s)
+    ReadFails SCRIPT 4 before after s ⊎ (HasBytes before.contents SCRIPT × StreamFails 5 STREAM before after s)
 
 -- all that a session is asked was read, and no file was touched
 pub record ReadsAsked (space : ℕ) (IN SCRIPT : List ℕ) (STREAM : Option (List ℕ)) (memory script words : List ℕ) (before after : World) : Type 0 where

@@ -4,6 +4,7 @@ use Rattle.std.specs.Str.{bytes_eq}
 use Rattle.std.specs.String.{string_bytes}
 use Rattle.tta_tool.specs.declared.request.Request.{Request as Asked}
 use Rattle.tta_tool.specs.declared.request.Request.TheVariants as for
+use Rattle.tta_tool.specs.declared.names.RunFiles.{RunFiles}
 use Rattle.tta_tool.specs.Cited.{bound_of, rounds_of, is_net}
 use Rattle.tta_tool.specs.Numbers.{seed_of, lines_of}
 
@@ -20,71 +21,104 @@ pub data Request : Type 0 where
   Ifconv : (program out : List ℕ) → Request
   Net : (rounds : ℕ) (links : List ℕ) (names : List (List ℕ)) → Request
 
--- the request of the name of a command whose last word is a file that it writes
-abbrev pub writing_request : (word machine second out : List ℕ) → Option Request
-writing_request word machine second out =
-    if bytes_eq word (codes "build") then Some (Build machine second out false)
-    else if bytes_eq word (codes "asm") then Some (Asm machine second out)
-    else if bytes_eq word (codes "dis") then Some (Dis machine second out)
-    else None
+-- ---- what is run
 
--- the request of the name of a command with a bound, after which the file of an input may be named
-abbrev pub bounded_request : (word machine second input : List ℕ) → (stream : Option (List ℕ)) → (bound : ℕ) → Option Request
-bounded_request word machine second input stream bound =
-    if bytes_eq word (codes "exec") then Some (Exec machine second input stream bound)
-    else if bytes_eq word (codes "run") then Some (Run machine second input stream bound)
-    else None
+-- The files of a run: of the machine, of the program or image, of data words, and of an input where one is named.
+pub record Files : Type 0 where
+  pub machine : List ℕ
+  pub second : List ℕ
+  pub input : List ℕ
+  pub stream : Option (List ℕ)
 
--- the request of the name of a command whose fourth word is a script, or the bound of a run
-abbrev pub running_request : (word machine second input last : List ℕ) → (stream : Option (List ℕ)) → Option Request
-running_request word machine second input last stream =
-    if bytes_eq word (codes "debug") then Some (Debug machine second input last stream)
-    else option_and_then (bounded_request word machine second input stream) (bound_of last)
+-- these files with the word after the data words, which the file of an input may follow
+abbrev pub run_words : List (List ℕ) → Option (Files × List ℕ)
+run_words (machine ∷ second ∷ input ∷ last ∷ []) =
+    Some (record { machine = machine; second = second; input = input; stream = None }, last)
+run_words (machine ∷ second ∷ input ∷ last ∷ stream ∷ []) =
+    Some (record { machine = machine; second = second; input = input; stream = Some stream }, last)
+run_words words = None
 
--- the request of `build` by the word after its files
-abbrev pub mode_request : (mode machine program out : List ℕ) → Option Request
-mode_request mode machine program out = if bytes_eq mode (codes "convert") then Some (Build machine program out true) else None
+-- the same where that word is a bound
+abbrev pub bounded : List (List ℕ) → Option (Files × ℕ)
+bounded words = option_and_then (λ r. option_map (λ bound. (r.0, bound)) (bound_of r.1)) (run_words words)
 
--- the request of the name of a command with four words, the last of which is a mode, a script or a bound
-abbrev pub long_request : (word machine second third last : List ℕ) → (stream : Option (List ℕ)) → Option Request
-long_request word machine second third last stream =
-    if bytes_eq word (codes "build") then mode_request last machine second third else running_request word machine second third last stream
+-- the files of the code's request
+abbrev pub files_in : RunFiles → Files
+files_in f = record { machine = f.machine.now; second = f.second.now; input = f.input.now; stream = option_map (λ s. s.now) f.stream }
 
--- the request of the name of a command that makes a file of one other
-abbrev pub lone_request : (word first out : List ℕ) → Option Request
-lone_request word first out = if bytes_eq word (codes "ifconv") then Some (Ifconv first out) else None
+-- ---- each command by the words after its name
 
--- the request of a sample by its seed and its number of body lines, for a machine
-abbrev pub sample_request : (seed lines machine : List ℕ) → Option Request
-sample_request seed lines machine =
-    option_and_then (λ s. option_and_then (λ n. Some (Sample s n machine)) (lines_of lines)) (seed_of seed)
+-- a program for a machine and the file of an image, with a word behind them where its branches are converted
+abbrev pub build_request : List (List ℕ) → Option Request
+build_request (machine ∷ program ∷ out ∷ []) = Some (Build machine program out false)
+build_request (machine ∷ program ∷ out ∷ mode ∷ []) =
+    if bytes_eq mode (codes "convert") then Some (Build machine program out true) else None
+build_request words = None
 
--- the request of the name of a command with three words
-abbrev pub short_request : (word first second third : List ℕ) → Option Request
-short_request word first second third =
-    if bytes_eq word (codes "sample") then sample_request first second third else writing_request word first second third
+-- a machine, assembly for it, and the file of an image
+abbrev pub asm_request : List (List ℕ) → Option Request
+asm_request (machine ∷ assembly ∷ out ∷ []) = Some (Asm machine assembly out)
+asm_request words = None
 
--- the request of the name of a command with two words
-abbrev pub brief_request : (word first second : List ℕ) → Option Request
-brief_request word first second = if bytes_eq word (codes "check") then Some (Check first second) else lone_request word first second
+-- a machine, an image for it, and the file of its assembly
+abbrev pub dis_request : List (List ℕ) → Option Request
+dis_request (machine ∷ image ∷ out ∷ []) = Some (Dis machine image out)
+dis_request words = None
 
--- the request of a net by the words after its name: how many rounds, the file of its links, and three for each core
+-- a machine and an image for it
+abbrev pub check_request : List (List ℕ) → Option Request
+check_request (machine ∷ image ∷ []) = Some (Check machine image)
+check_request words = None
+
+-- a run of a program, within so many steps
+abbrev pub exec_request : List (List ℕ) → Option Request
+exec_request words = option_map (λ r. Exec r.0.machine r.0.second r.0.input r.0.stream r.1) (bounded words)
+
+-- a run of an image, within so many cycles
+abbrev pub run_request : List (List ℕ) → Option Request
+run_request words = option_map (λ r. Run r.0.machine r.0.second r.0.input r.0.stream r.1) (bounded words)
+
+-- a run of an image, and the file of a script
+abbrev pub debug_request : List (List ℕ) → Option Request
+debug_request words = option_map (λ r. Debug r.0.machine r.0.second r.0.input r.1 r.0.stream) (run_words words)
+
+-- a seed, a number of lines, and a machine
+abbrev pub sample_request : List (List ℕ) → Option Request
+sample_request (seed ∷ lines ∷ machine ∷ []) =
+    option_and_then (λ s. option_map (λ n. Sample s n machine) (lines_of lines)) (seed_of seed)
+sample_request words = None
+
+-- a program, and the file of the converted one
+abbrev pub ifconv_request : List (List ℕ) → Option Request
+ifconv_request (program ∷ out ∷ []) = Some (Ifconv program out)
+ifconv_request words = None
+
+-- a number of rounds, the file of links, and three files for each core
 abbrev pub net_request : List (List ℕ) → Option Request
 net_request (rounds ∷ links ∷ names) = if is_net (length names) then option_map (λ n. Net n links names) (rounds_of rounds) else None
 net_request words = None
 
--- the request of a command whose number of words its name tells
-abbrev pub fixed_request : List (List ℕ) → Option Request
-fixed_request (word ∷ first ∷ second ∷ []) = brief_request word first second
-fixed_request (word ∷ first ∷ second ∷ third ∷ []) = short_request word first second third
-fixed_request (word ∷ machine ∷ second ∷ input ∷ last ∷ []) = long_request word machine second input last None
-fixed_request (word ∷ machine ∷ second ∷ input ∷ last ∷ stream ∷ []) = running_request word machine second input last (Some stream)
-fixed_request words = None
+-- ---- by its name
+
+-- the request of a command of some name, by the words after it
+abbrev pub named_request : (name : List ℕ) → List (List ℕ) → Option Request
+named_request name words =
+    if bytes_eq name (codes "build") then build_request words
+    else if bytes_eq name (codes "asm") then asm_request words
+    else if bytes_eq name (codes "dis") then dis_request words
+    else if bytes_eq name (codes "check") then check_request words
+    else if bytes_eq name (codes "exec") then exec_request words
+    else if bytes_eq name (codes "run") then run_request words
+    else if bytes_eq name (codes "debug") then debug_request words
+    else if bytes_eq name (codes "sample") then sample_request words
+    else if bytes_eq name (codes "ifconv") then ifconv_request words
+    else if bytes_eq name (codes "net") then net_request words
+    else None
 
 -- the request of some words; none where they are no command
 abbrev pub request_of : List (List ℕ) → Option Request
 request_of [] = None
-request_of (word ∷ words) = if bytes_eq word (codes "net") then net_request words else fixed_request (word ∷ words)
+request_of (name ∷ words) = named_request name words
 
 -- what the code's request asks for
 abbrev pub asked : Asked → Request

@@ -41,7 +41,7 @@ fn script_files<F: Files>(
     ensures short { IfOk result (λ s. length s.bytes.items ≤ 2 ^ 24) }
 {
     let bytes = read_file(files, script, 4)?;
-    let words = stream_file(alloc, files, stream)?;
+    let words = stream_file(alloc, files, stream, 5)?;
     Ok(Script { bytes, words })
 }
 

@@ -61,6 +61,7 @@ fn exec_pair<F: Files, S: Sink>(
         files,
         request.names.input,
         request.names.stream,
+        5,
         space,
     ) {
         Ok(given) => carry_out(alloc, units, sink, pair, given, request.bound),

@@ -1,12 +1,8 @@
 //! What the words of a command line ask for. A name is that of a file.
 
-ghost use Rattle.std.specs.Prelude.{◌≡◌, ◌<◌, ◌^◌, map, option_map};
+ghost use Rattle.std.specs.Prelude.{◌≡◌, map, option_map};
 ghost use Rattle.std.specs.String.{string_bytes};
-ghost use Rattle.tta_tool.specs.Request.{asked, request_of, writing_request, sample_request};
-ghost use Rattle.tta_tool.specs.Request.{brief_request, short_request};
-ghost use Rattle.tta_tool.specs.Request.{bounded_request, running_request};
-ghost use Rattle.tta_tool.specs.Request.{lone_request, mode_request, long_request};
-ghost use Rattle.tta_tool.specs.Request.{net_request, fixed_request};
+ghost use Rattle.tta_tool.specs.Request as r;
 
 use crate::names::{
     BuildRequest, CheckRequest, ConvertRequest, RunFiles, RunRequest, SampleRequest,
@@ -31,146 +27,170 @@ pub enum Request<'w> {
     Net(NetRequest<'w>),
 }
 
-/// The request of the name of a command that makes a file of two others, with their names.
-fn of_files<'w>(word: &str, files: WriteRequest<'w>) -> Option<Request<'w>>
-    ensures { option_map asked result
-        ≡ writing_request word.now
-        files.entry.machine.now files.entry.second.now files.entry.out.now }
+/// `build`: a machine, a program and the file of an image, and the word `convert` behind them where the
+/// branches of the program are converted first.
+fn of_build<'w>(words: &'w [String]) -> Option<Request<'w>>
+    ensures { option_map r.asked result
+        ≡ r.build_request (map (λ w. string_bytes w) words.now) }
 {
-    if word == "build" {
-        return Some(Request::Build(BuildRequest {
-            names: files,
-            converts: false,
-        }));
-    }
-    if word == "asm" {
-        return Some(Request::Asm(files));
-    }
-    if word == "dis" {
-        return Some(Request::Dis(files));
-    }
-    None
-}
-
-/// The request of a sample by its seed and its number of body lines, for a machine.
-fn of_sample<'w>(seed: &str, lines: &str, machine: &'w str) -> Option<Request<'w>>
-    ensures { option_map asked result ≡ sample_request seed.now lines.now machine.now }
-{
-    let seed = seed_of(seed.as_bytes())?;
-    let lines = lines_of(lines.as_bytes())?;
-    Some(Request::Sample(SampleRequest {
-        seed,
-        lines,
-        machine,
-    }))
-}
-
-/// The request of the name of a command with three words after it.
-fn of_short<'w>(word: &str, first: &'w str, second: &'w str, third: &'w str) -> Option<Request<'w>>
-    ensures { option_map asked result ≡ short_request word.now first.now second.now third.now }
-{
-    if word == "sample" {
-        return of_sample(first, second, third);
-    }
-    let files = WriteRequest {
-        machine: first,
-        second,
-        out: third,
+    let (machine, second, out, converts) = match words {
+        [machine, second, out] => (machine, second, out, false),
+        [machine, second, out, mode] => {
+            if mode.as_str() != "convert" {
+                return None;
+            }
+            (machine, second, out, true)
+        }
+        _ => return None,
     };
-    of_files(word, files)
+    let names = WriteRequest {
+        machine,
+        second,
+        out,
+    };
+    Some(Request::Build(BuildRequest { names, converts }))
 }
 
-/// The request of the name of a command with a bound.
-fn of_bounded<'w>(word: &str, names: RunFiles<'w>, bound: u64) -> Option<Request<'w>>
-    requires few { bound < 2 ^ 48 }
-    ensures { option_map asked result ≡ bounded_request word.now
-        names.entry.machine.now names.entry.second.now names.entry.input.now
-        (option_map (λ s. s.now) names.entry.stream) bound }
+/// `asm`: a machine, assembly for it, and the file of an image.
+fn of_asm<'w>(words: &'w [String]) -> Option<Request<'w>>
+    ensures { option_map r.asked result
+        ≡ r.asm_request (map (λ w. string_bytes w) words.now) }
 {
-    if word == "exec" {
-        return Some(Request::Exec(RunRequest { names, bound }));
+    match words {
+        [machine, second, out] => Some(Request::Asm(WriteRequest {
+            machine,
+            second,
+            out,
+        })),
+        _ => None,
     }
-    if word == "run" {
-        return Some(Request::Run(RunRequest { names, bound }));
-    }
-    None
 }
 
-/// The request of the name of a command whose fourth word is a script, or the bound of a run.
-fn of_running<'w>(word: &str, names: RunFiles<'w>, last: &'w str) -> Option<Request<'w>>
-    ensures { option_map asked result ≡ running_request word.now
-        names.entry.machine.now names.entry.second.now names.entry.input.now last.now
-        (option_map (λ s. s.now) names.entry.stream) }
+/// `dis`: a machine, an image for it, and the file of its assembly.
+fn of_dis<'w>(words: &'w [String]) -> Option<Request<'w>>
+    ensures { option_map r.asked result
+        ≡ r.dis_request (map (λ w. string_bytes w) words.now) }
 {
-    if word == "debug" {
-        return Some(Request::Debug(SessionRequest {
-            names,
-            script: last,
-        }));
+    match words {
+        [machine, second, out] => Some(Request::Dis(WriteRequest {
+            machine,
+            second,
+            out,
+        })),
+        _ => None,
     }
+}
+
+/// `check`: a machine and an image for it.
+fn of_check<'w>(words: &'w [String]) -> Option<Request<'w>>
+    ensures { option_map r.asked result
+        ≡ r.check_request (map (λ w. string_bytes w) words.now) }
+{
+    match words {
+        [machine, image] => Some(Request::Check(CheckRequest { machine, image })),
+        _ => None,
+    }
+}
+
+/// The files of a run with the word after its data words, which the file of an input may follow.
+fn run_words<'w>(words: &'w [String]) -> Option<(RunFiles<'w>, &'w str)>
+    ensures { option_map (λ w. (r.files_in w.0, w.1.now)) result
+        ≡ r.run_words (map (λ w. string_bytes w) words.now) }
+{
+    match words {
+        [machine, second, input, last] => {
+            let files = RunFiles {
+                machine,
+                second,
+                input,
+                stream: None,
+            };
+            Some((files, last))
+        }
+        [machine, second, input, last, stream] => {
+            let files = RunFiles {
+                machine,
+                second,
+                input,
+                stream: Some(stream.as_str()),
+            };
+            Some((files, last))
+        }
+        _ => None,
+    }
+}
+
+/// A run by its words, the fourth of which is its bound.
+fn bounded<'w>(words: &'w [String]) -> Option<RunRequest<'w>>
+    ensures { option_map (λ w. (r.files_in w.names, w.bound)) result
+        ≡ r.bounded (map (λ w. string_bytes w) words.now) }
+{
+    let (names, last) = run_words(words)?;
     let bound = bound_of(last.as_bytes())?;
-    of_bounded(word, names, bound)
+    Some(RunRequest { names, bound })
 }
 
-/// The request of the name of a command that makes a file of one other.
-fn of_lone<'w>(word: &str, first: &'w str, out: &'w str) -> Option<Request<'w>>
-    ensures { option_map asked result ≡ lone_request word.now first.now out.now }
+/// `exec`: a run of a program, within so many steps.
+fn of_exec<'w>(words: &'w [String]) -> Option<Request<'w>>
+    ensures { option_map r.asked result
+        ≡ r.exec_request (map (λ w. string_bytes w) words.now) }
 {
-    if word == "ifconv" {
-        let program = first;
-        return Some(Request::Ifconv(ConvertRequest { program, out }));
-    }
-    None
+    let run = bounded(words)?;
+    Some(Request::Exec(run))
 }
 
-/// The request of the name of a command with two words after it.
-fn of_brief<'w>(word: &str, first: &'w str, second: &'w str) -> Option<Request<'w>>
-    ensures { option_map asked result ≡ brief_request word.now first.now second.now }
+/// `run`: a run of an image, within so many cycles.
+fn of_run<'w>(words: &'w [String]) -> Option<Request<'w>>
+    ensures { option_map r.asked result
+        ≡ r.run_request (map (λ w. string_bytes w) words.now) }
 {
-    if word == "check" {
-        return Some(Request::Check(CheckRequest {
-            machine: first,
-            image: second,
-        }));
-    }
-    of_lone(word, first, second)
+    let run = bounded(words)?;
+    Some(Request::Run(run))
 }
 
-/// The request of `build` by the word after its files.
-fn of_mode<'w>(mode: &str, files: WriteRequest<'w>) -> Option<Request<'w>>
-    ensures { option_map asked result
-        ≡ mode_request mode.now
-        files.entry.machine.now files.entry.second.now files.entry.out.now }
+/// `debug`: a run of an image, and the file of a script.
+fn of_debug<'w>(words: &'w [String]) -> Option<Request<'w>>
+    ensures { option_map r.asked result
+        ≡ r.debug_request (map (λ w. string_bytes w) words.now) }
 {
-    if mode == "convert" {
-        return Some(Request::Build(BuildRequest {
-            names: files,
-            converts: true,
-        }));
-    }
-    None
+    let (names, script) = run_words(words)?;
+    Some(Request::Debug(SessionRequest { names, script }))
 }
 
-/// The request of the name of a command with four words after it.
-fn of_long<'w>(word: &str, names: RunFiles<'w>, last: &'w str) -> Option<Request<'w>>
-    ensures { option_map asked result ≡ long_request word.now
-        names.entry.machine.now names.entry.second.now names.entry.input.now last.now
-        (option_map (λ s. s.now) names.entry.stream) }
+/// `sample`: a seed, a number of lines, and a machine.
+fn of_sample<'w>(words: &'w [String]) -> Option<Request<'w>>
+    ensures { option_map r.asked result
+        ≡ r.sample_request (map (λ w. string_bytes w) words.now) }
 {
-    if word == "build" {
-        let files = WriteRequest {
-            machine: names.machine,
-            second: names.second,
-            out: names.input,
-        };
-        return of_mode(last, files);
+    match words {
+        [seed, lines, machine] => {
+            let seed = seed_of(seed.as_bytes())?;
+            let lines = lines_of(lines.as_bytes())?;
+            Some(Request::Sample(SampleRequest {
+                seed,
+                lines,
+                machine,
+            }))
+        }
+        _ => None,
     }
-    of_running(word, names, last)
 }
 
-/// The request of a net by the words after its name.
+/// `ifconv`: a program, and the file of the converted one.
+fn of_ifconv<'w>(words: &'w [String]) -> Option<Request<'w>>
+    ensures { option_map r.asked result
+        ≡ r.ifconv_request (map (λ w. string_bytes w) words.now) }
+{
+    match words {
+        [program, out] => Some(Request::Ifconv(ConvertRequest { program, out })),
+        _ => None,
+    }
+}
+
+/// `net`: a number of rounds, the file of links, and three files for each core.
 fn of_net<'w>(words: &'w [String]) -> Option<Request<'w>>
-    ensures { option_map asked result ≡ net_request (map (λ w. string_bytes w) words.now) }
+    ensures { option_map r.asked result
+        ≡ r.net_request (map (λ w. string_bytes w) words.now) }
 {
     match words {
         [rounds, links, names @ ..] => {
@@ -188,49 +208,53 @@ fn of_net<'w>(words: &'w [String]) -> Option<Request<'w>>
     }
 }
 
-/// The request of a command whose number of words its name tells.
-fn of_fixed<'w>(words: &'w [String]) -> Option<Request<'w>>
-    ensures { option_map asked result ≡ fixed_request (map (λ w. string_bytes w) words.now) }
+/// The request of a command by its name and the words after it.
+fn named<'w>(name: &str, words: &'w [String]) -> Option<Request<'w>>
+    ensures { option_map r.asked result
+        ≡ r.named_request name.now (map (λ w. string_bytes w) words.now) }
 {
-    match words {
-        [word, first, second] => of_brief(word, first, second),
-        [word, first, second, third] => of_short(word, first, second, third),
-        [word, machine, second, input, last] => {
-            let names = RunFiles {
-                machine,
-                second,
-                input,
-                stream: None,
-            };
-            of_long(word, names, last)
-        }
-        [word, machine, second, input, last, stream] => {
-            let names = RunFiles {
-                machine,
-                second,
-                input,
-                stream: Some(stream.as_str()),
-            };
-            of_running(word, names, last)
-        }
-        _ => None,
+    if name == "build" {
+        return of_build(words);
     }
+    if name == "asm" {
+        return of_asm(words);
+    }
+    if name == "dis" {
+        return of_dis(words);
+    }
+    if name == "check" {
+        return of_check(words);
+    }
+    if name == "exec" {
+        return of_exec(words);
+    }
+    if name == "run" {
+        return of_run(words);
+    }
+    if name == "debug" {
+        return of_debug(words);
+    }
+    if name == "sample" {
+        return of_sample(words);
+    }
+    if name == "ifconv" {
+        return of_ifconv(words);
+    }
+    if name == "net" {
+        return of_net(words);
+    }
+    None
 }
 
 impl<'w> Request<'w> {
     /// What the words ask for, the first of them the command's name. `None` where they are no
     /// command.
     pub fn of(words: &'w Vec<String>) -> Option<Request<'w>>
-        ensures { option_map asked result
-            ≡ request_of (map (λ w. string_bytes w) words.now.items) }
+        ensures { option_map r.asked result
+            ≡ r.request_of (map (λ w. string_bytes w) words.now.items) }
     {
         match words.as_slice() {
-            [word, rest @ ..] => {
-                if word.as_str() == "net" {
-                    return of_net(rest);
-                }
-                of_fixed(words.as_slice())
-            }
+            [name, rest @ ..] => named(name, rest),
             _ => None,
         }
     }

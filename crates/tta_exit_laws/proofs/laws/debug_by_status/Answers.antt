@@ -30,7 +30,7 @@ module _ (u : Units) (M IMG IN SCRIPT : List ℕ) (STREAM : Option (List ℕ)) (
   of s G a b c d e f k g h i (inr (pair, inl (inl (inr x), q))) = f pair x q
   of s G a b c d e f k g h i (inr (pair, inl (inr (input, inl x), q))) = k (pair, input) x q
   of s G a b c d e f k g h i (inr (pair, inl (inr (input, inr (script, x)), q))) =
-      stream_stages STREAM before after s (g (pair, input) script) (h (pair, input) script) x q
+      stream_stages 5 STREAM before after s (g (pair, input) script) (h (pair, input) script) x q
   of s G a b c d e f k g h i (inr (pair, inr (asked, same, x))) = i pair asked same x
 
   -- a file that is at fault
@@ -40,7 +40,7 @@ module _ (u : Units) (M IMG IN SCRIPT : List ℕ) (STREAM : Option (List ℕ)) (
   at_fault s Fault word at quiet (inr (inl a)) = inr (a.1, inl (inl (inl (at 3 IN (a.0, a.2))), quiet))
   at_fault s Fault word at quiet (inr (inr (inl a))) = inr (a.1.0, inl (inr (a.1.1, inl (at 4 SCRIPT (a.0, a.2))), quiet))
   at_fault s Fault word at quiet (inr (inr (inr a))) =
-      inr (a.1.0, inl (inr (a.1.1, inr (a.2, stream_at STREAM before after s Fault word at a.0 a.3)), quiet))
+      inr (a.1.0, inl (inr (a.1.1, inr (a.2, stream_at 5 STREAM before after s Fault word at a.0 a.3)), quiet))
 
   by_status : (s : Status) → Debugs u M IMG IN SCRIPT STREAM before after old new s ↔ DebugEndings u M IMG IN SCRIPT STREAM before after old new s
   by_status status.Ok = (
@@ -76,7 +76,7 @@ module _ (u : Units) (M IMG IN SCRIPT : List ℕ) (STREAM : Option (List ℕ)) (
   by_status (status.BadStream line) = (
     of (status.BadStream line) _ absurd none (λ m. absurd) (λ m. none) (λ p. absurd) (λ p. none) (λ t. absurd)
         (λ t script. unnamed STREAM) (λ t script same e quiet. (same, quiet, t, script, e)) (λ p asked same. absurd),
-    λ e. inr (e.2.0, inl (inr (e.2.1, inr (e.3, stream_refused STREAM before after (status.BadStream line) e.0 e.4)), e.1)),
+    λ e. inr (e.2.0, inl (inr (e.2.1, inr (e.3, stream_refused 5 STREAM before after (status.BadStream line) e.0 e.4)), e.1)),
   )
   by_status (status.ReadFault word) = (
     of (status.ReadFault word) _ (λ e quiet. (quiet, inl (inl e))) none (λ m e quiet. (quiet, inl (inr (e.0, m, e.1)))) (λ m. none)

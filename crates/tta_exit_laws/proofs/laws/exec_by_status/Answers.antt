@@ -64,7 +64,7 @@ module _ (u : Units) (M P IN : List ℕ) (STREAM : Option (List ℕ)) (bound : �
   by_status (status.BadStream line) = (
     of (status.BadStream line) _ absurd none (λ m. absurd) (λ m. none) (λ p. absurd) (λ p. none) (λ t. unnamed STREAM)
         (λ t same e quiet. (same, quiet, t, e)) (λ p given same. absurd),
-    λ e. inr (e.2.0, inl (inr (e.2.1, stream_refused STREAM before after (status.BadStream line) e.0 e.3), e.1)),
+    λ e. inr (e.2.0, inl (inr (e.2.1, stream_refused 5 STREAM before after (status.BadStream line) e.0 e.3), e.1)),
   )
   by_status (status.ReadFault word) = (
     of (status.ReadFault word) _ (λ e quiet. (quiet, inl (inl e))) none (λ m e quiet. (quiet, inl (inr (e.0, m, e.1)))) (λ m. none)

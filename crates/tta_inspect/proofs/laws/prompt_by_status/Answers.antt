@@ -4,7 +4,8 @@ use Rattle.tta_load.specs.declared.status.Status.TheVariants as status
 use Rattle.tta_load.proofs.Stages.{none}
 use Rattle.tta_load.proofs.RunStages.{unnamed, unheld, apart, alone}
 use Rattle.tta_inspect.specs.Prompts.{OpensPrompt, PromptEndings}
-use Rattle.tta_inspect.proofs.Prompted.{stages, file_at, stream_refused}
+use Rattle.tta_load.proofs.RunStages.{stream_refused}
+use Rattle.tta_inspect.proofs.Prompted.{stages, file_at}
 use Rattle.tta_inspect.proofs.laws.prompt_by_status.Goals as goal
 
 module _ (u : Units) (M IMG IN : List ℕ) (STREAM : Option (List ℕ)) (before after : World) (came comes : Come) (old new : Output) where
@@ -37,7 +38,7 @@ module _ (u : Units) (M IMG IN : List ℕ) (STREAM : Option (List ℕ)) (before 
   by_status (status.BadStream line) = (
     stages u M IMG IN STREAM before after came comes old new (status.BadStream line) absurd none (λ m. absurd) (λ m. none) (λ p. absurd) (λ p. none)
         (λ t. unnamed STREAM) (λ t same e idle. (same, idle, t, e)) (λ p given same e. absurd e),
-    λ e. inl (inr (e.2.0, inr (e.2.1, stream_refused STREAM before after (status.BadStream line) e.0 e.3)), e.1),
+    λ e. inl (inr (e.2.0, inr (e.2.1, stream_refused 4 STREAM before after (status.BadStream line) e.0 e.3)), e.1),
   )
   by_status (status.ReadFault word) = (
     stages u M IMG IN STREAM before after came comes old new (status.ReadFault word) (λ e idle. inl (idle, inl (inl e))) none

@@ -76,7 +76,7 @@ module _ (u : Units) (view : RunView) (M F IN : List ℕ) (STREAM : Option (List
           | inl put ↦ absurd put.2
           | inr lacks ↦ never u p.machine.value p.second.value (status.BadStream line) (λ is. absurd cc) (λ q x. x) lacks.0
         ]),
-    λ e. inr (e.2.0, inl (inr (e.2.1, stream_refused STREAM before after (status.BadStream line) e.0 e.3), e.1)),
+    λ e. inr (e.2.0, inl (inr (e.2.1, stream_refused 5 STREAM before after (status.BadStream line) e.0 e.3), e.1)),
   )
   by_status (status.NotCovered rule) = (
     of (status.NotCovered rule) _ absurd none (λ m. absurd) (λ m e quiet. refused_not u m.value e.1.text (status.NotCovered rule) (λ x. x) (λ x. x) e.1.is) (λ p. absurd) (λ p. none)

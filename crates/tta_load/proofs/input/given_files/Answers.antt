@@ -13,7 +13,7 @@ pub returns-in_err-words-clause-ends : goal.returns-in_err-words-clause-ends
 returns-in_err-words-clause-ends g c =
     let f = g.F.Files in
     let error = err_from_is_err_and c.from_residual-in_err-words.result c.from_residual-in_err-words.ensures.1 in
-    rw (error.1, error.2) (given_refused c.args.space c.args.input.now (option_map (λ s. s.now) c.args.stream) c.in_ok-memory.memory.items
+    rw (error.1, error.2) (given_refused c.args.word c.args.space c.args.input.now (option_map (λ s. s.now) c.args.stream) c.in_ok-memory.memory.items
     (f.world c.args.files.now) (f.world c.input_file.new.files) (f.world c.stream_file.new.files)
     c.in_err-words.field-0.0 c.in_ok-memory.ensures.ends c.in_err-words.ensures)
 

@@ -8,7 +8,7 @@ use Rattle.tta_load.proofs.input.named_stream.Goals as goal
 pub returns : goal.returns
 returns g c =
     let Takes : List ℕ → Type 0 = λ bytes. TakesBytes (IsInput) (RefusesStream) bytes (λ v. v.items) c.stream_of.result in
-    file_taken (IsInput) (RefusesStream) c.args.name.now c.in_ok-bytes.bytes.items 5 _ _ (λ v. v.items) c.stream_of.result c.in_ok-bytes.ensures
+    file_taken (IsInput) (RefusesStream) c.args.name.now c.in_ok-bytes.bytes.items c.args.word _ _ (λ v. v.items) c.stream_of.result c.in_ok-bytes.ensures
     (subst Takes c.as_slice.ensures.value c.stream_of.ensures)
 
 pub returns-in_err-bytes : goal.returns-in_err-bytes
