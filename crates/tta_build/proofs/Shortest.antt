@@ -2,16 +2,15 @@
 use Rattle.std.proofs.Common.{◌≡◌, ◌<◌, ◌≤◌, ◌⊎◌, inl, inr, ℕ, zero, suc, Bool, true, false, List, [], ◌∷◌, ◌++◌, Some, refl, sym, ap, subst, ◌∙◌, arith, length, slice_get}
 use Rattle.std.specs.Prelude.{if◌then◌else◌, nat_lt}
 use Rattle.std.proofs.lemmas.Bool.Decides.{nat_tests}
-use Rattle.std.proofs.lemmas.List.{map-append}
 use Rattle.std.proofs.lemmas.Option.{slice_get_within}
 use Rattle.tta_build.specs.Cited.{Machine, BlockList, Placed, Respects, IsFirstFit, HasRoom, AreStandIns, optimised, HasForms, AreFirstFits, AreRoomy}
 use Rattle.tta_list.proofs.Lists.{slice_get-push, slice_get-longer, element, item_behind as last_there, length_more as push_length}
 use Rattle.tta_build.specs.Candidates.{IsCandidate, IsShortest, IsChosen, AreChosen}
 use Rattle.tta_build.specs.declared.best_candidate.Chosen.{Chosen}
 use Rattle.tta_build.specs.declared.trail.Trail.{Trail}
-use Rattle.tta_build.specs.Trail.{IsTrail, AreTrailsOf, last_of, lasts_of}
-use Rattle.tta_build.specs.Placing.{IsFitOf, IsKept, IsBest}
-use Rattle.tta_build.proofs.Trails.{are_candidates}
+use Rattle.tta_build.specs.Trail.{IsTrail, last_of}
+use Rattle.tta_build.specs.Placing.{IsFitOf, IsBest}
+use Rattle.tta_build.proofs.Trails.{trail_candidate, candidates_more}
 use Rattle.tta_build.proofs.Placements.{SoFar}
 
 -- a list with its placement
@@ -120,58 +119,53 @@ shortest_more m lists b p q r s is same = by (nat_lt q.length p.length) refl sam
 fit_of : (m : Machine) (t : Trail) (r : Chosen) → IsFitOf m t r → IsFirstFit m (last_of r.trail).items r.placed
 fit_of m t r is = subst (λ (x : Trail). IsFirstFit m (last_of x).items r.placed) (sym is.is) is.first
 
--- of one trail its placement is kept
-pub kept_one : (m : Machine) (t : Trail) (r : Chosen) → IsFitOf m t r → IsKept m (t ∷ []) r
-kept_one m t r is = record {
-  shortest = shortest_one m (last_of t) r.placed (record { first = is.first; respects = is.respects; room = is.room });
-  at = 0;
-  there = ap Some (sym is.is);
+-- that list is placed so
+placed_by : (m : Machine) (t : Trail) (r : Chosen) → IsFitOf m t r → IsPlacedBy m (last_of t) r.placed
+placed_by m t r is = record { first = is.first; respects = is.respects; room = is.room }
+
+-- of a block's list after the passes alone the placement is the best
+pub best_one : (m : Machine) (b : BlockList) (t : Trail) (r : Chosen) → IsTrail m b t → last_of t ≡ optimised m b → IsFitOf m t r → IsBest m b r
+best_one m b t r trail plain is = record {
+  chosen = record {
+    lists = last_of t ∷ [];
+    candidates = record { first = ap Some plain; each = one };
+    shortest = shortest_one m (last_of t) r.placed (placed_by m t r is);
+  };
+  trail = subst (IsTrail m b) (sym is.is) trail;
   fit = fit_of m t r is;
-}
+} where
+  one : (k : ℕ) (l : BlockList) → slice_get (last_of t ∷ []) k ≡ Some l → IsCandidate m b l
+  one zero l e = let same : last_of t ≡ l = cc in subst (IsCandidate m b) same (trail_candidate m b t trail)
+  one (suc k) l e = absurd cc
 
--- with a trail more that with the shorter of two placements is kept, and the one before on a tie
-pub kept_more : (m : Machine) (ts : List Trail) (t : Trail) (p q r : Chosen) → IsKept m ts p → IsFitOf m t q
-    → r ≡ (if nat_lt q.placed.length p.placed.length then q else p) → IsKept m (ts ++ t ∷ []) r
-kept_more m ts t p q r k is same = by (nat_lt q.placed.length p.placed.length) refl same where
-  fits : IsPlacedBy m (last_of t) q.placed
-  fits = record { first = is.first; respects = is.respects; room = is.room }
+-- with a trail more the shorter of two placements is the best, and the one before on a tie
+pub best_more : (m : Machine) (b : BlockList) (t : Trail) (p q r : Chosen) → IsBest m b p → IsTrail m b t → IsFitOf m t q
+    → r ≡ (if nat_lt q.placed.length p.placed.length then q else p) → IsBest m b r
+best_more m b t p q r best trail is same = by (nat_lt q.placed.length p.placed.length) refl same where
+  chosen : (x : Placed) → x ≡ (if nat_lt q.placed.length p.placed.length then q.placed else p.placed) → IsChosen m b x
+  chosen x e = record {
+    lists = best.chosen.lists ++ last_of t ∷ [];
+    candidates = candidates_more m b best.chosen.lists (last_of t) (trail_candidate m b t trail) best.chosen.candidates;
+    shortest = shortest_more m best.chosen.lists (last_of t) p.placed q.placed x best.chosen.shortest (placed_by m t q is) e;
+  }
 
-  short : (x : Placed) → x ≡ (if nat_lt q.placed.length p.placed.length then q.placed else p.placed) → IsShortest m (lasts_of (ts ++ t ∷ [])) x
-  short x e =
-      subst (λ (ls : List BlockList). IsShortest m ls x) (sym (map-append last_of ts (t ∷ [])))
-      (shortest_more m (lasts_of ts) (last_of t) p.placed q.placed x k.shortest fits e)
-
-  newer : nat_lt q.placed.length p.placed.length ≡ true → IsKept m (ts ++ t ∷ []) q
+  newer : nat_lt q.placed.length p.placed.length ≡ true → IsBest m b q
   newer e = record {
-    shortest = short q.placed (sym (ap (λ (b : Bool). if b then q.placed else p.placed) e));
-    at = length ts;
-    there = last_there ts t ∙ ap Some (sym is.is);
+    chosen = chosen q.placed (sym (ap (λ (c : Bool). if c then q.placed else p.placed) e));
+    trail = subst (IsTrail m b) (sym is.is) trail;
     fit = fit_of m t q is;
   }
 
-  stays : nat_lt q.placed.length p.placed.length ≡ false → IsKept m (ts ++ t ∷ []) p
+  stays : nat_lt q.placed.length p.placed.length ≡ false → IsBest m b p
   stays e = record {
-    shortest = short p.placed (sym (ap (λ (b : Bool). if b then q.placed else p.placed) e));
-    at = k.at;
-    there = slice_get-longer ts (t ∷ []) k.at p.trail k.there;
-    fit = k.fit;
+    chosen = chosen p.placed (sym (ap (λ (c : Bool). if c then q.placed else p.placed) e));
+    trail = best.trail;
+    fit = best.fit;
   }
 
-  by : (b : Bool) → nat_lt q.placed.length p.placed.length ≡ b → r ≡ (if b then q else p) → IsKept m (ts ++ t ∷ []) r
-  by true e this = subst (λ (x : Chosen). IsKept m (ts ++ t ∷ []) x) (sym this) (newer e)
-  by false e this = subst (λ (x : Chosen). IsKept m (ts ++ t ∷ []) x) (sym this) (stays e)
-
--- what is kept of a block's candidates is the best
-pub kept_best : (m : Machine) (b : BlockList) (t : Trail) (ts : List Trail) (r : Chosen) → IsTrail m b t → last_of t ≡ optimised m b → AreTrailsOf m b ts
-    → IsKept m (t ∷ ts) r → IsBest m b r
-kept_best m b t ts r first plain others k = record {
-  chosen = record { lists = lasts_of (t ∷ ts); candidates = are_candidates m b t ts first plain others; shortest = k.shortest };
-  trail = there k.at k.there;
-  fit = k.fit;
-} where
-  there : (n : ℕ) → slice_get (t ∷ ts) n ≡ Some r.trail → IsTrail m b r.trail
-  there zero e = let same : t ≡ r.trail = cc in subst (IsTrail m b) same first
-  there (suc n) e = others n r.trail e
+  by : (c : Bool) → nat_lt q.placed.length p.placed.length ≡ c → r ≡ (if c then q else p) → IsBest m b r
+  by true e this = subst (IsBest m b) (sym this) (newer e)
+  by false e this = subst (IsBest m b) (sym this) (stays e)
 
 -- ---- the lists whose placements were chosen
 

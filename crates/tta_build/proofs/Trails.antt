@@ -2,7 +2,7 @@
 use Rattle.std.proofs.Common.{◌≡◌, ℕ, zero, suc, true, List, [], ◌∷◌, ◌++◌, Option, Some, None, refl, sym, ap, subst, slice_get, length, ◌⊎◌, inl, inr}
 use Rattle.std.specs.Prelude.{IfSome, unwrap_or, Result, Ok, OnOk}
 use Rattle.std.specs.Option.{option_map_or}
-use Rattle.tta_list.proofs.Lists.{slice_get-push}
+use Rattle.tta_list.proofs.Lists.{slice_get-push, slice_get-longer}
 use Rattle.tta_build.specs.Cited.{Machine, BlockList, is_list, IsStandIn, optimised}
 use Rattle.tta_optim.proofs.StandIns.{stands_itself, stand_in_next}
 use Rattle.tta_optim.proofs.Passing.{passed_is}
@@ -13,7 +13,7 @@ use Rattle.tta_build.specs.declared.trail.Round.{Round}
 use Rattle.tta_build.specs.declared.trail.Rounds.{Rounds}
 use Rattle.tta_build.specs.declared.trail.Start.{Start}
 use Rattle.tta_build.specs.declared.trail.Trail.{Trail}
-use Rattle.tta_build.specs.Trail.{IsStart, start_of, order_of, IsRound, AreRounds, rounds_last, IsTrail, AreTrailsOf, last_of, lasts_of}
+use Rattle.tta_build.specs.Trail.{IsStart, start_of, order_of, IsRound, AreRounds, rounds_last, IsTrail, AreTrailsOf, last_of}
 
 -- ---- one round
 
@@ -84,14 +84,16 @@ trails_more m b ts us t same is are k x e = by (slice_get-push ts t k x (subst (
   by (inl f) = are k x f
   by (inr f) = subst (IsTrail m b) f.1 is
 
--- the candidates to which the trails of a block lead, the first of them by the passes alone
-pub are_candidates : (m : Machine) (b : BlockList) (t : Trail) (ts : List Trail) → IsTrail m b t → last_of t ≡ optimised m b → AreTrailsOf m b ts
-    → AreCandidates m b (lasts_of (t ∷ ts))
-are_candidates m b t ts first plain others = record { first = ap Some plain; each = each t ts first others } where
-  each : (t : Trail) (ts : List Trail) → IsTrail m b t → AreTrailsOf m b ts → (k : ℕ) (l : BlockList) → slice_get (lasts_of (t ∷ ts)) k ≡ Some l → IsCandidate m b l
-  each t ts is are zero l e = let same : last_of t ≡ l = cc in subst (IsCandidate m b) same (trail_candidate m b t is)
-  each t [] is are (suc k) l e = absurd cc
-  each t (x ∷ ts) is are (suc k) l e = each x ts (are 0 x refl) (λ j y f. are (suc j) y f) k l e
+-- one candidate more
+pub candidates_more : (m : Machine) (b : BlockList) (lists : List BlockList) (l : BlockList) → IsCandidate m b l → AreCandidates m b lists
+    → AreCandidates m b (lists ++ l ∷ [])
+candidates_more m b lists l is are = record {
+  first = slice_get-longer lists (l ∷ []) 0 (optimised m b) are.first;
+  each = λ k x e. by k x (slice_get-push lists l k x e);
+} where
+  by : (k : ℕ) (x : BlockList) → (slice_get lists k ≡ Some x) ⊎ ((k ≡ length lists) × (l ≡ x)) → IsCandidate m b x
+  by k x (inl f) = are.each k x f
+  by k x (inr f) = subst (IsCandidate m b) f.1 is
 
 -- of no trail there is one that is not the block's
 pub no_trails : (m : Machine) (b : BlockList) (ts : List Trail) → ts ≡ [] → AreTrailsOf m b ts

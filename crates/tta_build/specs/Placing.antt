@@ -1,23 +1,16 @@
 -- Which candidates of a block are made, which of their placements stays, and the lists and placements of all blocks.
-use Rattle.std.specs.Prelude.{◌≡◌, ℕ, List, Some, IfSome, slice_get}
-use Rattle.tta_build.specs.Cited.{Machine, BlockList, Respects, IsFirstFit, HasRoom, IsStandIn, optimised, AreFirstFits}
+use Rattle.std.specs.Prelude.{◌≡◌, List, IfSome}
+use Rattle.tta_build.specs.Cited.{Machine, BlockList, Respects, IsFirstFit, HasRoom, IsStandIn, AreFirstFits}
 use Rattle.tta_build.specs.declared.trail.Trail.{Trail}
 use Rattle.tta_build.specs.declared.candidates.Bound.{Bound}
 use Rattle.tta_build.specs.declared.candidates.Choices.{Choices}
-use Rattle.tta_build.specs.declared.candidates.Trails.{Trails}
 use Rattle.tta_build.specs.declared.best_candidate.Chosen.{Chosen}
 use Rattle.tta_build.specs.declared.best_candidate.Placements.{Placements}
 use Rattle.tta_build.specs.declared.best_candidate.Planned.{Planned}
-use Rattle.tta_build.specs.Candidates.{IsShortest, IsChosen, AreChosen}
-use Rattle.tta_build.specs.Trail.{AreRounds, IsTrail, AreTrailsOf, AreTrails, last_of, lasts_of}
+use Rattle.tta_build.specs.Candidates.{IsChosen, AreChosen}
+use Rattle.tta_build.specs.Trail.{AreRounds, IsTrail, AreTrails, last_of, lasts_of}
 
 -- ---- candidates
-
--- trails of a block, the first by the passes alone
-pub record AreOfBlock (m : Machine) (b : BlockList) (ts : Trails) : Type 0 where
-  pub first : IsTrail m b ts.first
-  pub plain : last_of ts.first ≡ optimised m b
-  pub others : AreTrailsOf m b ts.others.items
 
 -- some rounds of a list
 pub record AreChoices (m : Machine) (list : BlockList) (r : Choices) : Type 0 where
@@ -37,13 +30,6 @@ pub record IsFitOf (m : Machine) (t : Trail) (r : Chosen) : Type 0 where
   pub first : IsFirstFit m (last_of t).items r.placed
   pub respects : Respects m (last_of t).items r.placed
   pub room : HasRoom m (last_of t).items r.placed
-
--- Of some trails one is kept with its placement, which is the shortest of theirs.
-pub record IsKept (m : Machine) (ts : List Trail) (r : Chosen) : Type 0 where
-  pub shortest : IsShortest m (lasts_of ts) r.placed
-  pub at : ℕ
-  pub there : slice_get ts at ≡ Some r.trail
-  pub fit : IsFirstFit m (last_of r.trail).items r.placed
 
 -- The placement of a block is the shortest of its candidates, and a first fit of the list to which its trail leads.
 pub record IsBest (m : Machine) (b : BlockList) (r : Chosen) : Type 0 where

@@ -3,12 +3,13 @@
 ghost use Rattle.std.specs.Prelude.{◌≡◌, true, IfOk};
 ghost use Rattle.std.specs.List.{list_all};
 ghost use Rattle.tta_moves.specs.Slots.{is_list};
-ghost use Rattle.tta_build.specs.Trail.{last_of};
-ghost use Rattle.tta_build.specs.Placing.{IsFitOf, AreOfBlock, IsBest};
+ghost use Rattle.tta_build.specs.Trail.{AreTrailsOf, last_of};
+ghost use Rattle.tta_build.specs.Placing.{IsFitOf, IsBest};
 ghost use Rattle.tta_build.specs.Placing.{ArePlacements, ArePlanned};
 
-use crate::candidates::{Candidates, Trails};
+use crate::candidates::Candidates;
 use crate::keeping::{beside, chosen};
+use crate::least::Earliest;
 use crate::trail::Trail;
 use std::alloc::{AllocError, Global};
 use tta_arch::Machine;
@@ -50,21 +51,22 @@ fn fit_of(
     Ok(Chosen { trail, placed })
 }
 
-/// The shortest first fit of a block's candidates, the first of them on a tie. Only the shortest so
-/// far is kept beside the one that is made.
+/// The shorter of the placement so far and first fits of more candidates of a block, the first of them
+/// on a tie. Only the shortest so far is kept beside the one that is made.
 fn shortest(
     alloc: Global,
     placer: &mut Placer,
     on: &Covered<'_>,
     b: &BlockList,
-    lists: Trails,
+    so_far: Chosen,
+    others: Vec<Trail>,
 ) -> Result<Chosen, AllocError>
     requires list { is_list on.now.joined.machine.now b.now.items ≡ true }
-    requires lists { AreOfBlock on.now.joined.machine.now b.now lists }
+    requires best { IsBest on.now.joined.machine.now b.now so_far }
+    requires others { AreTrailsOf on.now.joined.machine.now b.now others.items }
     ensures { IfOk result (λ r. IsBest on.now.joined.machine.now b.now r) }
 {
-    let Trails { first, others } = lists;
-    let mut best = fit_of(alloc, placer, on, first)?;
+    let mut best = so_far;
     for trail in others {
         let other = fit_of(alloc, placer, on, trail);
         let (one, other) = beside(best, other)?;
@@ -73,11 +75,20 @@ fn shortest(
     Ok(best)
 }
 
+/// Whether trails come of a list in which loads are served.
+fn are_served(trails: &[Trail]) -> bool {
+    match trails.get(0) {
+        None => false,
+        Some(trail) => trail.start.served.is_some(),
+    }
+}
+
 /// What places one block after another. Its tables take their memory once.
 #[derive(Drop)]
 struct Chooser {
     candidates: Candidates,
     placer: Placer,
+    earliest: Earliest,
 }
 
 impl Chooser {
@@ -85,10 +96,49 @@ impl Chooser {
     fn new(alloc: Global, m: &Machine, hub: u8) -> Result<Self, AllocError> {
         let candidates = Candidates::new(alloc, hub)?;
         let placer = Placer::new(alloc, m)?;
-        Ok(Chooser { candidates, placer })
+        let earliest = Earliest::new(alloc, m)?;
+        Ok(Chooser {
+            candidates,
+            placer,
+            earliest,
+        })
     }
 
-    /// The shortest first fit of a block's candidates. It fails only where there is no memory.
+    /// The first fit of a block's list after the passes. It fails only where there is no memory.
+    fn plain(
+        &mut self,
+        alloc: Global,
+        on: &Covered<'_>,
+        b: &BlockList,
+    ) -> Result<Chosen, AllocError>
+        requires list { is_list on.now.joined.machine.now b.now.items ≡ true }
+        ensures { IfOk result (λ r. IsBest on.now.joined.machine.now b.now r) }
+    {
+        let first = self.candidates.plain(alloc, on, b)?;
+        let best = fit_of(alloc, &mut self.placer, on, first)?;
+        Ok(best)
+    }
+
+    /// The shorter of a placement and that of a block's own list from the last group. It fails only where
+    /// there is no memory.
+    fn with_last(
+        &mut self,
+        alloc: Global,
+        on: &Covered<'_>,
+        b: &BlockList,
+        so_far: Chosen,
+    ) -> Result<Chosen, AllocError>
+        requires list { is_list on.now.joined.machine.now b.now.items ≡ true }
+        requires best { IsBest on.now.joined.machine.now b.now so_far }
+        ensures { IfOk result (λ r. IsBest on.now.joined.machine.now b.now r) }
+    {
+        let more = self.candidates.from_last(alloc, on, b);
+        let (best, more) = beside(so_far, more)?;
+        shortest(alloc, &mut self.placer, on, b, best, more)
+    }
+
+    /// The shortest first fit of a block's candidates. They are made in turn, until one takes as few
+    /// cycles as any could. It fails only where there is no memory.
     fn place(
         &mut self,
         alloc: Global,
@@ -98,8 +148,19 @@ impl Chooser {
         requires list { is_list on.now.joined.machine.now b.now.items ≡ true }
         ensures { IfOk result (λ r. IsBest on.now.joined.machine.now b.now r) }
     {
-        let lists = self.candidates.of_block(alloc, on, b)?;
-        shortest(alloc, &mut self.placer, on, b, lists)
+        let first = self.plain(alloc, on, b)?;
+        let least = self.earliest.cycles(on.joined.machine, b.items.as_slice());
+        if first.placed.length <= least {
+            return Ok(first);
+        }
+        let others = self.candidates.others(alloc, on, b);
+        let (first, others) = beside(first, others)?;
+        let is_served = are_served(others.as_slice());
+        let best = shortest(alloc, &mut self.placer, on, b, first, others)?;
+        if is_served || best.placed.length <= least {
+            return Ok(best);
+        }
+        self.with_last(alloc, on, b, best)
     }
 }
 

@@ -6,7 +6,7 @@ ghost use Rattle.tta_moves.specs.Slots.{is_list};
 ghost use Rattle.tta_optim.specs.Kept.{IsStandIn};
 ghost use Rattle.tta_compose.specs.Compiler.{optimised};
 ghost use Rattle.tta_build.specs.Trail.{IsTrail, AreTrailsOf, last_of};
-ghost use Rattle.tta_build.specs.Placing.{AreOfBlock, AreChoices, IsBound};
+ghost use Rattle.tta_build.specs.Placing.{AreChoices, IsBound};
 
 use crate::keeping::beside;
 use crate::pushing::{push_bound, push_served, push_some};
@@ -26,13 +26,6 @@ const FEW_ITEMS: usize = 64;
 /// In longer lists loads that are served leave an order by groups little to gain, and one by items is
 /// worth its time only where they are.
 const MANY_ITEMS: usize = 512;
-
-/// The candidates of a block: its list after the passes, and others.
-#[derive(Drop)]
-pub struct Trails {
-    pub first: Trail,
-    pub others: Vec<Trail>,
-}
 
 /// The rounds of a list that most often are the shortest, and those by items where it is short.
 #[derive(Drop)]
@@ -64,7 +57,12 @@ impl Candidates {
     }
 
     /// The trail of a block by the passes alone. It fails only where there is no memory.
-    fn plain(&mut self, alloc: Global, on: &Covered<'_>, b: &BlockList) -> Result<Trail, AllocError>
+    pub fn plain(
+        &mut self,
+        alloc: Global,
+        on: &Covered<'_>,
+        b: &BlockList,
+    ) -> Result<Trail, AllocError>
         requires list { is_list on.now.joined.machine.now b.now.items ≡ true }
         ensures trail { IfOk result (λ t. IsTrail on.now.joined.machine.now b.now t) }
         ensures last { IfOk result (λ t. last_of t ≡ optimised on.now.joined.machine.now b.now) }
@@ -232,8 +230,7 @@ impl Candidates {
         }
     }
 
-    /// Adds what a block's own list becomes in these ways, and in the order from the last group. It fails
-    /// only where there is no memory.
+    /// Adds what a block's own list becomes in these ways. It fails only where there is no memory.
     fn of_own(
         &mut self,
         alloc: Global,
@@ -247,16 +244,31 @@ impl Candidates {
     {
         let bound = self.bound(alloc, on, b)?;
         self.add_first(alloc, on, lists, b, bound)?;
-        let more = self.rounder.of_way(alloc, on, b, usize::MAX, LAST_FIRST)?;
-        push_some(lists, more)?;
         Ok(())
     }
 
-    /// The candidates of a block beside its list after the passes. Where loads can be served from what
-    /// is at hand, they come of the list in which they are, for that is seldom longer; else of its own.
-    /// Where units offer the same operations, there are more, in which they share the work. It fails
-    /// only where there is no memory.
-    fn others(
+    /// What a block's own list becomes in the order from the last group. It fails only where there is no
+    /// memory.
+    pub fn from_last(
+        &mut self,
+        alloc: Global,
+        on: &Covered<'_>,
+        b: &BlockList,
+    ) -> Result<Vec<Trail>, AllocError>
+        requires list { is_list on.now.joined.machine.now b.now.items ≡ true }
+        ensures { IfOk result (λ ts. AreTrailsOf on.now.joined.machine.now b.now ts.items) }
+    {
+        let more = self.rounder.of_way(alloc, on, b, usize::MAX, LAST_FIRST)?;
+        let mut lists = Vec::new(alloc);
+        push_some(&mut lists, more)?;
+        Ok(lists)
+    }
+
+    /// The candidates of a block beside its list after the passes, but for its own list from the last
+    /// group. Where loads can be served from what is at hand, they come of the list in which they are, for
+    /// that is seldom longer; else of its own. Where units offer the same operations, there are more, in
+    /// which they share the work. It fails only where there is no memory.
+    pub fn others(
         &mut self,
         alloc: Global,
         on: &Covered<'_>,
@@ -276,22 +288,5 @@ impl Candidates {
                 Ok(lists)
             }
         }
-    }
-
-    /// The candidates of a block, for what is chosen on a machine. The first is its list after the
-    /// passes. It fails only where there is no memory.
-    pub fn of_block(
-        &mut self,
-        alloc: Global,
-        on: &Covered<'_>,
-        b: &BlockList,
-    ) -> Result<Trails, AllocError>
-        requires list { is_list on.now.joined.machine.now b.now.items ≡ true }
-        ensures { IfOk result (λ ts. AreOfBlock on.now.joined.machine.now b.now ts) }
-    {
-        let first = self.plain(alloc, on, b)?;
-        let others = self.others(alloc, on, b);
-        let (first, others) = beside(first, others)?;
-        Ok(Trails { first, others })
     }
 }

@@ -15,6 +15,7 @@ mod direct_pair;
 mod error;
 mod keeping;
 mod laws;
+mod least;
 mod linking;
 mod needs;
 mod placed_program;

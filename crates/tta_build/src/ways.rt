@@ -153,6 +153,10 @@ impl Rounder {
         requires list { is_list on.now.joined.machine.now list.now.items ≡ true }
         ensures { IfOk result (λ o. IfSome o (λ r. AreRounds on.now.joined.machine.now list.now r)) }
     {
+        // The passes seldom leave out half of a list.
+        if list.items.len() > most.saturating_mul(2) {
+            return Ok(None);
+        }
         let first = self.plain(alloc, on, list)?;
         if !is_worth(first.last(), most) {
             return Ok(None);

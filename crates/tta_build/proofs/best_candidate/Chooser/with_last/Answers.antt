@@ -1,0 +1,18 @@
+use Rattle.std.proofs.Common.{sym, subst}
+use Rattle.std.specs.Prelude.{Vec}
+use Rattle.std.specs.Global.{Global}
+use Rattle.std.proofs.lemmas.Result.{IfOk-at_ok}
+use Rattle.tta_build.specs.declared.trail.Trail.{Trail}
+use Rattle.tta_build.specs.Trail.{AreTrailsOf}
+use Rattle.tta_build.specs.Placing.{IsBest}
+use Rattle.tta_build.proofs.best_candidate.Chooser.with_last.Goals as goal
+
+pub shortest-requires : goal.shortest-requires
+shortest-requires c =
+    let m = c.args.on.now.joined.machine.now in
+    let b = c.args.b.now in
+    let both = c.in_ok-best.ensures in record {
+      list = c.requires.list;
+      best = subst (IsBest m b) (sym both.first) c.requires.best;
+      others = IfOk-at_ok (λ (ts : Vec Trail Global). AreTrailsOf m b ts.items) both.other c.from_last-more.ensures;
+    }
