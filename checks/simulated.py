@@ -12,13 +12,24 @@ from built import PROGRAM, VIEW
 from readers.bench import ran as evaluated
 from readers.circuit import Circuit
 from readers.machine import machine
-from readers.own_operations import MADE
+from readers.own_operations import ARITY, MADE
 from readers.tokens import answer
 from readers.verilog import Refused, modules
 from shapes import machine_text
 EXAMPLES = os.path.join(os.path.dirname(os.path.dirname(os.path.abspath(__file__))), "examples")
 BENCH, OPERATIONS = (os.path.join(EXAMPLES, "hardware", name) for name in ("bench.v", "operations"))
 COMPILED_BOUND = 1500
+BOX = """module box_NAME #(parameter STAGES = 1) (input clk, input [0:0] enable, input [31:0] a, input [31:0] b, output [31:0] word);
+`include "NAME.v"
+reg [63:0] kept [1:STAGES];
+integer k;
+always @(posedge clk) if (enable) begin
+  kept[1] <= {a, b};
+  for (k = 2; k <= STAGES; k = k + 1) kept[k] <= kept[k - 1];
+end
+assign word = own_NAME(kept[STAGES][63:32], kept[STAGES][31:0]);
+endmodule
+"""
 IVERILOG = shutil.which("iverilog")
 
 
@@ -52,7 +63,7 @@ def laid(image, words, size):
     return memory
 
 
-def told(text, filed):
+def told_above(text, filed):
     """The lines that stand above the text of a core of the machine M and the image IMG, by these files and by its first line; above the file
     of its code where there is no such line."""
     machine, image = read("M"), read("IMG")
@@ -74,12 +85,25 @@ def first_difference(found, wanted):
     return f"line {wrong}: {found[wrong:wrong + 2]} and not {wanted[wrong:wrong + 2]}"
 
 
+def boxes(text):
+    """The files of the modules of operations of one's own that a text has instances of: those of the examples, and one for each other, whose
+    module keeps the words of an operation and makes it at the end."""
+    wanted, files = set(re.findall(r"^box_(\w+) #", text, re.M)), []
+    if wanted & {"divs", "rems"}:
+        files.append(os.path.join(EXAMPLES, "hardware", "modules", "signed_division.v"))
+    for name in sorted(wanted - {"divs", "rems"}):
+        write(f"box_{name}.v", BOX.replace("NAME", name).encode())
+        files.append(f"box_{name}.v")
+    return files
+
+
 def simulated(data, bound, stream, pauses):
     """What the bench prints of the core, line by line."""
     text = read("core.v").decode()
     size = len(data)
     ports = [f"-D{name}" for name, port in (("HAS_OUT", "out_valid"), ("HAS_IN", "in_valid"), ("HAS_FAULT", "fault")) if re.search(rf"^module .*\b{port}\b", text, re.M)]
-    made = subprocess.run(["iverilog", "-g2001", "-Wall", "-Wno-timescale", f"-I{OPERATIONS}", f"-DDATA={size}", *ports, "-s", "bench", "-o", "core", BENCH, "core.v"],
+    files = [BENCH, "core.v", *boxes(text)]
+    made = subprocess.run(["iverilog", "-g2001", "-Wall", "-Wno-timescale", f"-I{OPERATIONS}", f"-DDATA={size}", *ports, "-s", "bench", "-o", "core", *files],
                           capture_output=True, text=True, timeout=120)
     if made.returncode or made.stderr:
         return [f"iverilog: {made.stdout}{made.stderr}"[:600]]
@@ -141,12 +165,13 @@ class Pair:
         write("code.hex", words or b"")
         for it, module in ((text, text.decode()), *([(words, "")] if words else [])):
             heading = [line for line in it.decode().splitlines()[:8] if line.startswith("//")]
-            if heading != told(module, words is not None):
-                return f"above the text: {first_difference(heading, told(module, words is not None))}"
+            if heading != told_above(module, words is not None):
+                return f"above the text: {first_difference(heading, told_above(module, words is not None))}"
         data = laid(read("IMG"), words_in(self.given), self.size)
         stream = words_in(self.stream) if self.stream else []
         try:
-            circuit = Circuit(modules(text.decode())["tta_core"], random.Random(pauses), MADE, {"code.hex": (words or b"").decode()})
+            told = modules(text.decode())
+            circuit = Circuit(told["tta_core"], random.Random(pauses), MADE, {"code.hex": (words or b"").decode()}, told)
             found, clocks = evaluated(circuit, data, self.bound, stream, pauses)
         except Refused as refusal:
             return f"the text: {refusal}"
@@ -175,6 +200,29 @@ class Pair:
         seen["again"] += 1
         seen["evaluated"] += clocks
         return f"after a reset, {first_difference(found, wanted)}" if found != wanted else None
+
+
+class FaultPair(Pair):
+    """A pair whose core tells faults. Without one it runs up to the bound; at a fault it stands where `run` stands before that cycle."""
+    marks = ("faults",)
+
+    def ran(self, given, bound):
+        words = ["run", "M", "IMG", given, str(bound), *([self.stream] if self.stream else [])]
+        fault = re.fullmatch(r"tta: machine fault: code (\d+), cycle (\d+)\n", call(self.programs[0], *words)[2])
+        if not fault:
+            return super().ran(given, bound)
+        lines, _ = super().ran(given, int(fault[2]))
+        return [f"fault {fault[1]}" if line == "running" else line for line in lines], bound
+
+
+def own_program(by):
+    """A program that puts out what each operation of examples/bits.machine makes of some words."""
+    lines, edges = ["proc main"], [0, 1, 2, 31, 32, 127, 128, 32767, 32768, 2**31 - 1, 2**31, 2**32 - 2, 2**32 - 1]
+    for k in range(24):
+        name = sorted(MADE)[k % len(MADE)]
+        words = [by.choice(edges) if by.randrange(3) else by.getrandbits(by.randrange(1, 33)) for _ in range(2)]
+        lines += [f"x = {name} {' '.join(map(str, words[:ARITY.get(name, 1)]))}", "out x"]
+    return "\n".join([*lines, "halt", "end", ""])
 
 
 def compiled_pair(by, kind=Pair):
