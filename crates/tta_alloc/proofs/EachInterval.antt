@@ -11,7 +11,7 @@ use Rattle.tta_alloc.specs.Cited.{Proc, Program}
 use Rattle.tta_alloc.specs.declared.interval.Interval.{Interval}
 use Rattle.tta_alloc.specs.declared.intervals.Intervals.{Intervals}
 use Rattle.tta_alloc.specs.AllIntervals.{interval_in, AreIntervalsOf, AreIntervals, IsIntervalOf}
-use Rattle.tta_alloc.specs.declared.met.Met.{Met}
+use Rattle.tta_alloc.specs.declared.met.Seen.{Seen}
 use Rattle.tta_alloc.specs.Intervals.{Counts}
 use Rattle.tta_alloc.specs.Meetings.{met}
 use Rattle.tta_alloc.specs.Together.{AreFirst, AreLast, interval_of}
@@ -82,7 +82,7 @@ below_more q n all new o h is grown = record {
       subst (IsIntervalOf q x) (sym last) (subst (λ (k : ℕ). IsIntervalOf q k o) same is)
 
 -- the first position and the last make the interval
-pub interval_is : (q : Proc) (starts ends : Met) (x : ℕ) → x < q.vars → AreFirst q starts → AreLast q ends
+pub interval_is : (q : Proc) (starts ends : Seen) (x : ℕ) → x < q.vars → AreFirst q starts → AreLast q ends
     → IsIntervalOf q x (interval_of false (met starts x) (met ends x) x)
 interval_is q starts ends x small first last = by (met starts x) (met ends x) (first x small) (last x small) where
   by : (a b : Option ℕ) → MatchOption a ((at : ℕ) → Counts q x at → ⊥) (λ p. Counts q x p × ((at : ℕ) → Counts q x at → p ≤ at))

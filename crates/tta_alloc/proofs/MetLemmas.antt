@@ -8,7 +8,7 @@ use Rattle.std.proofs.lemmas.List.{length-set}
 use Rattle.std.proofs.Math.Bool.{or-false}
 use Rattle.tta_list.proofs.Tests.{and_left, and_right}
 use Rattle.tta_alloc.specs.Cited.{has}
-use Rattle.tta_alloc.specs.declared.met.Met.{Met}
+use Rattle.tta_alloc.specs.declared.met.Seen.{Seen}
 use Rattle.tta_alloc.specs.Meetings.{met, or_met, within, IsSound, Meets}
 
 -- ---- one answer after another
@@ -29,14 +29,14 @@ or_met_then None false t at = refl
 -- ---- tests
 
 module _ (at : ℕ) where
-  pub meets_none : (t : ℕ → Bool) (m : Met) → IsSound m → ((x : ℕ) → t x ≡ false) → Meets t at m m
+  pub meets_none : (t : ℕ → Bool) (m : Seen) → IsSound m → ((x : ℕ) → t x ≡ false) → Meets t at m m
   meets_none t m sound none = record {
     sound = sound;
     size = refl;
     all = λ x small. or_met_false (met m x) at ∙ ap (λ b. or_met (met m x) b at) (sym (none x));
   }
 
-  pub meets_then : (t u : ℕ → Bool) (a b c : Met) → Meets t at a b → Meets u at b c → Meets (λ x. t x || u x) at a c
+  pub meets_then : (t u : ℕ → Bool) (a b c : Seen) → Meets t at a b → Meets u at b c → Meets (λ x. t x || u x) at a c
   meets_then t u a b c one two = record {
     sound = two.sound;
     size = two.size ∙ one.size;
@@ -44,7 +44,7 @@ module _ (at : ℕ) where
         two.all x (let s = one.size in omega arith) ∙ ap (λ o. or_met o (u x) at) (one.all x small) ∙ or_met_then (met a x) (t x) (u x) at;
   }
 
-  pub meets_same : (t u : ℕ → Bool) (a b : Met) → ((x : ℕ) → x < length a.places.items → t x ≡ u x) → Meets t at a b → Meets u at a b
+  pub meets_same : (t u : ℕ → Bool) (a b : Seen) → ((x : ℕ) → x < length a.places.items → t x ≡ u x) → Meets t at a b → Meets u at a b
   meets_same t u a b same h = record {
     sound = h.sound;
     size = h.size;
@@ -52,7 +52,7 @@ module _ (at : ℕ) where
   }
 
   -- all that pass were seen
-  pub meets_seen : (t : ℕ → Bool) (m : Met) → IsSound m → ((x : ℕ) → t x ≡ true → has m.seen x ≡ true) → Meets t at m m
+  pub meets_seen : (t : ℕ → Bool) (m : Seen) → IsSound m → ((x : ℕ) → t x ≡ true → has m.seen x ≡ true) → Meets t at m m
   meets_seen t m sound seen = record { sound = sound; size = refl; all = λ x small. by x small (t x) refl } where
     by : (x : ℕ) → x < length m.places.items → (b : Bool) → t x ≡ b → met m x ≡ or_met (met m x) (t x) at
     by x small true e = or_met_some (met m x) (t x) at (sound.seen x small (seen x e))
@@ -60,13 +60,13 @@ module _ (at : ℕ) where
 
   -- ---- one variable
 
-  pub meets_again : (m : Met) (x : ℕ) → IsSound m → is_some (met m x) ≡ true → Meets (λ k. x == k) at m m
+  pub meets_again : (m : Seen) (x : ℕ) → IsSound m → is_some (met m x) ≡ true → Meets (λ k. x == k) at m m
   meets_again m x sound there = record { sound = sound; size = refl; all = λ k small. by k (cases_eq x k) } where
     by : (k : ℕ) → (x ≡ k) ⊎ (x ≢ k) → met m k ≡ or_met (met m k) (x == k) at
     by k (inl e) = or_met_some (met m k) (x == k) at (ap (λ n. is_some (met m n)) (sym e) ∙ there)
     by k (inr n) = or_met_false (met m k) at ∙ ap (λ b. or_met (met m k) b at) (sym (ne_eqb x k n))
 
-  pub meets_one : (old new : Met) (x : ℕ) → IsSound old → x < length old.places.items → is_some (met old x) ≡ false
+  pub meets_one : (old new : Seen) (x : ℕ) → IsSound old → x < length old.places.items → is_some (met old x) ≡ false
       → new.places.items ≡ set old.places.items x (Some at) → ((k : ℕ) → has new.seen k ≡ (has old.seen k || x == k))
       → length new.seen.words.items ≡ length old.seen.words.items → Meets (λ k. x == k) at old new
   meets_one old new x sound there free is seen room = record {
@@ -105,9 +105,9 @@ module _ (at : ℕ) where
 
   -- ---- ranges of variables
 
-  module _ (r : ℕ → Bool) (old new : Met) (low high : ℕ) where
+  module _ (r : ℕ → Bool) (old new : Seen) (low high : ℕ) where
     -- one variable more
-    pub meets_next : (m : Met) → low ≤ high → Meets (λ x. within low high x && r x) at old m → Meets (λ x. r high && high == x) at m new
+    pub meets_next : (m : Seen) → low ≤ high → Meets (λ x. within low high x && r x) at old m → Meets (λ x. r high && high == x) at m new
         → Meets (λ x. within low (high + 1) x && r x) at old new
     meets_next m order one two =
         meets_same (λ x. (within low high x && r x) || (r high && high == x)) (λ x. within low (high + 1) x && r x) old new
@@ -133,7 +133,7 @@ module _ (at : ℕ) where
             rw (b, ne_eqb high x n) (none (within low high x && r x) (r high))
 
     -- one range more
-    pub meets_range : (mid : ℕ) (m : Met) → low ≤ mid → mid ≤ high → Meets (λ x. within low mid x && r x) at old m
+    pub meets_range : (mid : ℕ) (m : Seen) → low ≤ mid → mid ≤ high → Meets (λ x. within low mid x && r x) at old m
         → Meets (λ x. within mid high x && r x) at m new → Meets (λ x. within low high x && r x) at old new
     meets_range mid m less more one two =
         meets_same (λ x. (within low mid x && r x) || (within mid high x && r x)) (λ x. within low high x && r x) old new
@@ -156,7 +156,7 @@ module _ (at : ℕ) where
             let b : nat_le mid x ≡ true = le-leb mid x (omega arith) in
             rw (e, a, b) refl
 
-  pub meets_empty : (r : ℕ → Bool) (low : ℕ) (m : Met) → IsSound m → Meets (λ x. within low low x && r x) at m m
+  pub meets_empty : (r : ℕ → Bool) (low : ℕ) (m : Seen) → IsSound m → Meets (λ x. within low low x && r x) at m m
   meets_empty r low m sound = meets_none (λ x. within low low x && r x) m sound (λ x. by x (nat_lt x low) refl) where
     none : (a b : Bool) → ((a && false) && b) ≡ false
     none true b = refl
@@ -167,13 +167,13 @@ module _ (at : ℕ) where
     by x false e = rw e (none (nat_le low x) (r x))
 
   -- all variables
-  pub meets_all : (r : ℕ → Bool) (high : ℕ) (a b : Met) → length a.places.items ≤ high → Meets (λ x. within 0 high x && r x) at a b → Meets r at a b
+  pub meets_all : (r : ℕ → Bool) (high : ℕ) (a b : Seen) → length a.places.items ≤ high → Meets (λ x. within 0 high x && r x) at a b → Meets r at a b
   meets_all r high a b past h =
       meets_same (λ x. within 0 high x && r x) r a b
       (λ x small. (let c : nat_lt x high ≡ true = lt-ltb x high (omega arith) in let d : nat_le 0 x ≡ true = le-leb 0 x (omega arith) in rw (c, d) refl)) h
 
   -- a word that was seen whole
-  pub meets_word : (r : ℕ → Bool) (word : ℕ) (m : Met) → IsSound m → ((k : ℕ) → k / 64 ≡ word → r k ≡ true → has m.seen k ≡ true)
+  pub meets_word : (r : ℕ → Bool) (word : ℕ) (m : Seen) → IsSound m → ((k : ℕ) → k / 64 ≡ word → r k ≡ true → has m.seen k ≡ true)
       → Meets (λ x. within (word * 64) (word * 64 + 64) x && r x) at m m
   meets_word r word m sound covers =
       meets_seen (λ x. within (word * 64) (word * 64 + 64) x && r x) m sound

@@ -20,7 +20,7 @@ use Rattle.tta_alloc.specs.declared.interval.Interval.{Interval}
 use Rattle.tta_alloc.specs.Intervals.{Counts, IsInterval, IsKept, TakesPart, AreTaken, IsBefore, IsSettled}
 use Rattle.tta_alloc.specs.Together.{AreAmong, AreFirst, AreLast, AreKept, interval_of}
 use Rattle.tta_alloc.specs.Meetings.{met}
-use Rattle.tta_alloc.specs.declared.met.Met.{Met}
+use Rattle.tta_alloc.specs.declared.met.Seen.{Seen}
 use Rattle.tta_flow.proofs.RunLemmas.{two as three}
 
 -- ---- elements by their places
@@ -87,7 +87,7 @@ module _ (p : Interval → Bool) where
 
 -- ---- one variable
 
-pub candidate_is : (q : Proc) (kept : BitRow) (starts ends : Met) (x : ℕ) (one : Option Interval) → x < q.vars → AreKept q kept → AreFirst q starts
+pub candidate_is : (q : Proc) (kept : BitRow) (starts ends : Seen) (x : ℕ) (one : Option Interval) → x < q.vars → AreKept q kept → AreFirst q starts
     → AreLast q ends → one ≡ interval_of (has kept x) (met starts x) (met ends x) x
     → MatchOption one ((IsKept q x) ⊎ ((at : ℕ) → Counts q x at → ⊥)) (λ iv. (iv.var ≡ x) × TakesPart q iv)
 candidate_is q kept starts ends x one small held first last is =

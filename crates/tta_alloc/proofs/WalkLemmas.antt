@@ -7,7 +7,7 @@ use Rattle.std.proofs.Math.Bool.{or-true}
 use Rattle.tta_list.proofs.Tests.{and_left, and_right}
 use Rattle.tta_alloc.specs.Cited.{Step, BitRow, has, assigns_at, Reached, Begin, Onward, IsClosed, LiveBefore, ReadHere, ReadLater, LiveAfter, live_before, is_found}
 use Rattle.tta_alloc.specs.declared.body.Body.{Body}
-use Rattle.tta_alloc.specs.declared.met.Met.{Met}
+use Rattle.tta_alloc.specs.declared.met.Seen.{Seen}
 use Rattle.tta_alloc.specs.Bodies.{IsKnown, at_entry, at_step, counted, Fills}
 use Rattle.tta_alloc.specs.Intervals.{Counts, IsParam, IsLiveAtEntry, IsRead, IsAssigned, IsLiveBefore, IsLiveAfter}
 use Rattle.tta_alloc.specs.Known.{Known}
@@ -116,13 +116,13 @@ found_more P Done Next R at false None to from last order h = λ k n p. elim (la
   | inr e ↦ let f = from (subst P e p) in cc
 ]
 
-pub record IsWalk (b : Body) (Done : ℕ → Type 0) (R : ℕ → ℕ → Type 0) (m : Met) (row : BitRow) : Type 0 where
+pub record IsWalk (b : Body) (Done : ℕ → Type 0) (R : ℕ → ℕ → Type 0) (m : Seen) (row : BitRow) : Type 0 where
   pub size : length m.places.items ≡ b.q.now.vars
   pub sound : IsSound m
   pub room : length row.words.items ≡ b.q.now.vars / 64 + 1
   pub found : (x : ℕ) → x < b.q.now.vars → Found (Counts b.q.now x) Done R (met m x)
 
-pub walk_none : (b : Body) (Done : ℕ → Type 0) (R : ℕ → ℕ → Type 0) (m : Met) (row : BitRow) → length m.places.items ≡ b.q.now.vars → IsSound m
+pub walk_none : (b : Body) (Done : ℕ → Type 0) (R : ℕ → ℕ → Type 0) (m : Seen) (row : BitRow) → length m.places.items ≡ b.q.now.vars → IsSound m
     → length row.words.items ≡ b.q.now.vars / 64 + 1 → ((x : ℕ) → x < b.q.now.vars → met m x ≡ None)
     → ((x k : ℕ) → Done k → Counts b.q.now x k → ⊥) → IsWalk b Done R m row
 walk_none b Done R m row size sound room none past = record {
@@ -132,7 +132,7 @@ walk_none b Done R m row size sound room none past = record {
   found = λ x small. subst (Found (Counts b.q.now x) Done R) (sym (none x small)) (past x);
 }
 
-pub walk_more : (b : Body) → IsKnown b → (Done Next : ℕ → Type 0) (R : ℕ → ℕ → Type 0) (place : ℕ) (old new : Met) (before row : BitRow)
+pub walk_more : (b : Body) → IsKnown b → (Done Next : ℕ → Type 0) (R : ℕ → ℕ → Type 0) (place : ℕ) (old new : Seen) (before row : BitRow)
     → place ≤ length b.q.now.steps → ((k : ℕ) → Next k → (Done k) ⊎ (k ≡ place)) → ((k : ℕ) → (Done k) ⊎ (R place k))
     → IsWalk b Done R old before → Fills (counted b place) before row → Meets (has row) place old new → IsWalk b Next R new row
 walk_more b h Done Next R place old new before row there last order w fills meets = record {
@@ -147,7 +147,7 @@ walk_more b h Done Next R place old new before row there last order w fills meet
   is : (x : ℕ) → x < b.q.now.vars → has row x ≡ counted b place x
   is x small = fills.bits x (let r = w.room in omega arith)
 
-pub walk_all : (b : Body) (Done : ℕ → Type 0) (R : ℕ → ℕ → Type 0) (m : Met) (row : BitRow) → ((x k : ℕ) → Counts b.q.now x k → Done k) → IsWalk b Done R m row
+pub walk_all : (b : Body) (Done : ℕ → Type 0) (R : ℕ → ℕ → Type 0) (m : Seen) (row : BitRow) → ((x k : ℕ) → Counts b.q.now x k → Done k) → IsWalk b Done R m row
     → (x : ℕ) → x < b.q.now.vars → MatchOption (met m x) ((k : ℕ) → Counts b.q.now x k → ⊥) (λ p. Counts b.q.now x p × ((k : ℕ) → Counts b.q.now x k → R p k))
 walk_all b Done R m row all w x small = by (met m x) (w.found x small) where
   by : (o : Option ℕ) → Found (Counts b.q.now x) Done R o

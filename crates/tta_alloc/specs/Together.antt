@@ -4,17 +4,17 @@ use Rattle.std.specs.List.{Contains}
 use Rattle.std.specs.Option.{MatchOption}
 use Rattle.tta_alloc.specs.Cited.{Proc, BitRow, has}
 use Rattle.tta_alloc.specs.declared.interval.Interval.{Interval}
-use Rattle.tta_alloc.specs.declared.met.Met.{Met}
+use Rattle.tta_alloc.specs.declared.met.Seen.{Seen}
 use Rattle.tta_alloc.specs.Intervals.{Counts, IsKept, TakesPart, IsSettled}
 use Rattle.tta_alloc.specs.Meetings.{met}
 
 -- for each variable the first position that counts for it, if one does
-abbrev pub AreFirst : Proc → Met → Type 0
+abbrev pub AreFirst : Proc → Seen → Type 0
 AreFirst q m = (x : ℕ) → x < q.vars → MatchOption (met m x) ((k : ℕ) → Counts q x k → ⊥)
     (λ first. Counts q x first × ((k : ℕ) → Counts q x k → first ≤ k))
 
 -- for each variable the last position that counts for it, if one does
-abbrev pub AreLast : Proc → Met → Type 0
+abbrev pub AreLast : Proc → Seen → Type 0
 AreLast q m = (x : ℕ) → x < q.vars → MatchOption (met m x) ((k : ℕ) → Counts q x k → ⊥)
     (λ last. Counts q x last × ((k : ℕ) → Counts q x k → k ≤ last))
 

@@ -10,19 +10,19 @@ use tta_flow::BitRow;
 /// For each variable the position at which it was met first. The row has only variables that were
 /// met: of a word of it that has all of another row, nothing is to be done.
 #[derive(Drop)]
-pub struct Met {
+pub struct Seen {
     pub places: Vec<Option<u32>>,
     pub seen: BitRow,
 }
 
-impl Met {
+impl Seen {
     /// So many variables, none of which was met.
     pub fn new(alloc: Global, vars: u32) -> Result<Self, AllocError>
         ensures size { IfOk result (λ m. length m.places.items ≡ vars) }
         ensures sound { IfOk result (λ m. IsSound m) }
         ensures none { IfOk result (λ m. (x : ℕ) → x < vars → met m x ≡ None) }
     {
-        Ok(Met {
+        Ok(Seen {
             places: vec![in alloc; None; vars as usize]?,
             seen: BitRow::new(alloc, vars as usize)?,
         })

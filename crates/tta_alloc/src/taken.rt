@@ -14,7 +14,7 @@ ghost use Rattle.tta_flow.specs.Search.{is_found};
 use crate::body::Body;
 use crate::interval::Interval;
 use crate::kept::kept_over;
-use crate::met::Met;
+use crate::met::Seen;
 use crate::walks::{firsts, lasts};
 use std::alloc::{AllocError, Global};
 use tta_flow::{BitRow, Live};
@@ -113,7 +113,7 @@ fn together(alloc: Global, body: &Body<'_>) -> Result<Vec<Interval>, AllocError>
 }
 
 /// The interval of a variable, where it has one and no call keeps it.
-fn candidate(kept: &BitRow, starts: &Met, ends: &Met, x: u32) -> Option<Interval>
+fn candidate(kept: &BitRow, starts: &Seen, ends: &Seen, x: u32) -> Option<Interval>
     ensures { result ≡ interval_of (has kept.now x) (met starts.now x) (met ends.now x) x }
 {
     if kept.get(x as usize) {
@@ -123,7 +123,7 @@ fn candidate(kept: &BitRow, starts: &Met, ends: &Met, x: u32) -> Option<Interval
 }
 
 /// The interval of a variable, by its first position and its last.
-fn interval_at(starts: &Met, ends: &Met, x: u32) -> Option<Interval>
+fn interval_at(starts: &Seen, ends: &Seen, x: u32) -> Option<Interval>
     ensures { result ≡ interval_of false (met starts.now x) (met ends.now x) x }
 {
     match (starts.place(x), ends.place(x)) {

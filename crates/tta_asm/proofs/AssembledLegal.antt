@@ -1,7 +1,7 @@
 -- The whole of a text is legal.
 use Rattle.std.proofs.Common.{◌≡◌, ℕ, true, List, [], length, drop, Ok, sym, subst}
-use Rattle.tta_reading.specs.Steps.{◌>>=◌}
-use Rattle.tta_reading.proofs.Steps.{then-ok, same_ok}
+use Rattle.tta_parse.specs.Steps.{◌>>=◌}
+use Rattle.tta_parse.proofs.Steps.{then-ok, same_ok}
 use Rattle.tta_asm.specs.Cited.{Units, Machine, Code, Datum, Whole, rises, fits, IsLegalCode, IsLegalWhole}
 use Rattle.tta_asm.specs.Labels.{labels_of}
 use Rattle.tta_asm.specs.Pieces.{Piece, pieces_of}

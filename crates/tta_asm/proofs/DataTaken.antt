@@ -4,9 +4,9 @@ use Rattle.std.specs.Prelude.{◌&&◌, ◌||◌, nat_lt}
 use Rattle.std.proofs.lemmas.Bool.{and_from, or_parts, le-leb, lt-ltb, leb-false, ltb-false}
 use Rattle.std.proofs.lemmas.List.{append_assoc, append-nil}
 use Rattle.tta_asm.specs.Cited.{value_of, constant_of, refuse_if, Datum, rises_from, fits}
-use Rattle.tta_reading.specs.Steps.{◌>>=◌}
-use Rattle.tta_reading.proofs.Steps.{same_ok, then-ok, some-ok, refuse_if-ok}
-use Rattle.tta_reading.proofs.Constants.{constant_word}
+use Rattle.tta_parse.specs.Steps.{◌>>=◌}
+use Rattle.tta_parse.proofs.Steps.{same_ok, then-ok, some-ok, refuse_if-ok}
+use Rattle.tta_parse.proofs.Constants.{constant_word}
 use Rattle.tta_asm.specs.declared.refusal.AsmRefusal.TheVariants as refusal
 use Rattle.tta_asm.specs.Refusals.{fitting}
 use Rattle.tta_asm.specs.Pieces.{Placed, Piece}

@@ -5,8 +5,8 @@ use Rattle.std.specs.List.{AllByRecursion}
 use Rattle.std.specs.Option.{option_map_or}
 use Rattle.tta_list.proofs.Lists.{all_push}
 use Rattle.tta_asm.specs.Cited.{Declared, named_in, refuse_if, Units, Machine, Instruction, is_legal, IsLegalCode}
-use Rattle.tta_reading.specs.Steps.{◌>>=◌}
-use Rattle.tta_reading.proofs.Steps.{same_ok, then-ok, refuse_if-ok}
+use Rattle.tta_parse.specs.Steps.{◌>>=◌}
+use Rattle.tta_parse.proofs.Steps.{same_ok, then-ok, refuse_if-ok}
 use Rattle.tta_asm.specs.declared.labels.Label.{Label}
 use Rattle.tta_asm.specs.declared.refusal.AsmRefusal.TheVariants.{Illegal, Slots, Range}
 use Rattle.tta_asm.specs.declared.refusal.AsmRefusal.TheVariants as refusal

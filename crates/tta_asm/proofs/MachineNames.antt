@@ -7,7 +7,7 @@ use Rattle.std.proofs.lemmas.List.Elements.{All-get_or}
 use Rattle.std.proofs.lemmas.Option.{slice_get_past, slice_get_read}
 use Rattle.tta_list.proofs.Lists.{slice_get-front, item_behind}
 use Rattle.tta_asm.specs.Cited.{Declared, named_in, Units, ImmUnit, UnitOp, Machine, IsMachine}
-use Rattle.tta_reading.specs.Steps.{◌>>?◌}
+use Rattle.tta_parse.specs.Steps.{◌>>?◌}
 use Rattle.tta_arch.specs.declared.parts.File.{File}
 use Rattle.tta_arch.specs.declared.parts.Unit.{Unit as OpUnit}
 use Rattle.tta_arch.specs.declared.parts.Template.{Template}

@@ -1,7 +1,7 @@
 -- A whole and its canonical text determine each other.
 use Rattle.std.proofs.Common.{◌≡◌, ℕ, List, ap, sym, ◌∙◌}
 use Rattle.std.specs.Prelude.{Ok}
-use Rattle.tta_reading.proofs.Steps.{same_ok}
+use Rattle.tta_parse.proofs.Steps.{same_ok}
 use Rattle.tta_asm.specs.Cited.{Units, Machine, IsMachine, StandsOver, Whole, IsLegalWhole}
 use Rattle.tta_asm.specs.Assembly.{assembled}
 use Rattle.tta_disasm.specs.Canonical.{canonical}

@@ -5,8 +5,8 @@ use Rattle.std.proofs.lemmas.List.{append_assoc}
 use Rattle.tta_text.specs.declared.lexeme.Kind.{Kind}
 use Rattle.tta_asm.specs.Cited.{Mark, Eol, is_newline, piece_at, mark_piece, tokens_from, is_line_end}
 use Rattle.tta_text.specs.Tokens.{token}
-use Rattle.tta_reading.proofs.TextNames.{slice-between}
-use Rattle.tta_reading.proofs.Scanned.{IsScanned}
+use Rattle.tta_parse.proofs.TextNames.{slice-between}
+use Rattle.tta_parse.proofs.Scanned.{IsScanned}
 use Rattle.tta_asm.specs.declared.pieces.Close.{Close}
 use Rattle.tta_asm.specs.declared.pieces.Close.TheVariants.{Comma, Semicolon}
 use Rattle.tta_asm.specs.Pieces.{Placed, Piece, closing, pieces_from}

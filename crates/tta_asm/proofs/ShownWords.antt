@@ -11,7 +11,7 @@ use Rattle.tta_text.specs.Tokens.{token}
 use Rattle.tta_text.proofs.Shapes.{digit_is_run_byte}
 use Rattle.tta_text.proofs.ShownWords.{digits_of_values}
 use Rattle.tta_asm.proofs.ShownScan.{Stays}
-use Rattle.tta_reading.proofs.Scanned.{name_scanned, number_scanned, equals_scanned}
+use Rattle.tta_parse.proofs.Scanned.{name_scanned, number_scanned, equals_scanned}
 
 -- a name closes no piece
 pub name_stays : (text after : List ℕ) → is_name text ≡ true → first_is is_word_byte after ≡ false → Stays Name text after

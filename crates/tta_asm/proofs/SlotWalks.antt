@@ -2,7 +2,7 @@
 use Rattle.std.proofs.Common.{◌≡◌, ℕ, ◌+◌, ◌<◌, List, [], ◌∷◌, ◌++◌, length, map, drop, get_or, Option, option_map, Result, Ok, Err, refl, sym, ap, ◌∙◌}
 use Rattle.std.proofs.lemmas.List.{append_assoc, drop_more}
 use Rattle.tta_asm.specs.Cited.{Declared, Units, Machine, Move}
-use Rattle.tta_reading.specs.Steps.{◌>>=◌}
+use Rattle.tta_parse.specs.Steps.{◌>>=◌}
 use Rattle.tta_asm.specs.declared.forms.SlotForm.{SlotForm as SlotWords}
 use Rattle.tta_asm.specs.declared.labels.Label.{Label}
 use Rattle.tta_asm.specs.Assembly.{at_line, moves_of}

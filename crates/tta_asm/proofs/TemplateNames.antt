@@ -6,7 +6,7 @@ use Rattle.std.proofs.lemmas.List.{length-map}
 use Rattle.std.proofs.lemmas.Option.{none-some, same_Some}
 use Rattle.tta_list.proofs.Lists.{some_within}
 use Rattle.tta_asm.specs.Cited.{named_in, Machine}
-use Rattle.tta_reading.specs.Steps.{◌>>?◌}
+use Rattle.tta_parse.specs.Steps.{◌>>?◌}
 use Rattle.tta_arch.specs.declared.parts.Template.{Template}
 use Rattle.tta_asm.specs.declared.parts.Part.{Part}
 use Rattle.tta_asm.specs.declared.parts.Part.TheVariants as part

@@ -2,7 +2,7 @@
 use Rattle.std.specs.Prelude.{ℕ, ◌+◌, ◌^◌, ◌==◌, Bool, false, not, ◌&&◌, nat_le, if◌then◌else◌, List, [], ◌∷◌, ◌++◌, length, Option, Some, None, Result, Ok, Err}
 use Rattle.std.specs.Option.{option_map_or}
 use Rattle.tta_asm.specs.Cited.{Declared, named_in, refuse_if, Units, Machine, Move, Long, Instruction, Code, Whole, is_legal}
-use Rattle.tta_reading.specs.Steps.{◌>>=◌}
+use Rattle.tta_parse.specs.Steps.{◌>>=◌}
 use Rattle.tta_asm.specs.declared.refusal.AsmRefusal.{AsmRefusal}
 use Rattle.tta_asm.specs.declared.refusal.AsmRefusal.TheVariants.{Illegal, Slots, Range}
 use Rattle.tta_asm.specs.declared.refusal.AsmRefusal.TheVariants as refusal

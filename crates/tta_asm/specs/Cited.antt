@@ -28,10 +28,10 @@ unfoldable pub use Rattle.tta_ops.specs.Stated.{stated_by}
 pub use Rattle.tta_ops.specs.Units.{Units, named}
 pub use Rattle.tta_ops.specs.declared.OpId.{OpId}
 pub use Rattle.tta_ops.specs.declared.set.UnitSet.{UnitSet}
-pub use Rattle.tta_reading.specs.Lines.{Lexeme, is_line_end, lexeme_of, plain}
-pub use Rattle.tta_reading.specs.Names.{Declared, named_in}
-pub use Rattle.tta_reading.specs.Steps.{only_if, or_refuse, refuse_if}
-pub use Rattle.tta_reading.specs.Words.{constant_of, is_keyword, is_mark, name_of, value_of}
+pub use Rattle.tta_parse.specs.Lines.{Lexeme, is_line_end, lexeme_of, plain}
+pub use Rattle.tta_parse.specs.Names.{Declared, named_in}
+pub use Rattle.tta_parse.specs.Steps.{only_if, or_refuse, refuse_if}
+pub use Rattle.tta_parse.specs.Words.{constant_of, is_keyword, is_mark, name_of, value_of}
 pub use Rattle.tta_text.specs.Bytes.{is_newline, is_word_byte}
 unfoldable pub use Rattle.tta_text.specs.Numbers.{digits_of, negative_of, number_of, value_below}
 unfoldable pub use Rattle.tta_text.specs.Tokens.{mark_piece, negative_piece, number_piece, piece_at, tokens_from, tokens_of}

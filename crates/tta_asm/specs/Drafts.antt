@@ -1,7 +1,7 @@
 -- What the code has read of a text, as the definitions see it, and what a piece does to it.
 use Rattle.std.specs.Prelude.{ℕ, length, map, Option, Result, Ok}
 use Rattle.tta_asm.specs.Cited.{Declared, Units, Machine}
-use Rattle.tta_reading.specs.Steps.{◌>>=◌}
+use Rattle.tta_parse.specs.Steps.{◌>>=◌}
 use Rattle.tta_asm.specs.declared.labels.Label.{Label}
 use Rattle.tta_asm.specs.Forms.{LongForm}
 use Rattle.tta_asm.specs.declared.draft.Draft.{Draft as DraftWords}

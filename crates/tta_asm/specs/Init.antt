@@ -1,7 +1,7 @@
 -- The data that an assembly text begins with.
 use Rattle.std.specs.Prelude.{ℕ, ◌+◌, Bool, false, ◌&&◌, ◌||◌, nat_lt, nat_le, if◌then◌else◌, List, [], ◌∷◌, ◌++◌, drop, is_some, Result, Ok, Err, codes}
 use Rattle.tta_asm.specs.Cited.{is_keyword, value_of, constant_of, refuse_if, Datum}
-use Rattle.tta_reading.specs.Steps.{◌>>=◌}
+use Rattle.tta_parse.specs.Steps.{◌>>=◌}
 use Rattle.tta_asm.specs.declared.refusal.AsmRefusal.TheVariants as refusal
 use Rattle.tta_asm.specs.Refusals.{Refusal, fitting}
 use Rattle.tta_asm.specs.Pieces.{Placed, Piece}

@@ -2,7 +2,7 @@
 use Rattle.std.specs.Prelude.{ℕ, ◌==◌, Bool, true, not, ◌&&◌, nat_lt, if◌then◌else◌, List, Option, Some, None, is_some, option_map, option_and_then, slice_get, Result, Ok, codes}
 use Rattle.std.specs.Str.{bytes_eq}
 use Rattle.tta_asm.specs.Cited.{Declared, named_in, or_refuse, refuse_if, only_if, Units, GuardRef, Source, Dest, Machine, is_source_on, joins, Move, Long}
-use Rattle.tta_reading.specs.Steps.{◌>>=◌, ◌>>?◌}
+use Rattle.tta_parse.specs.Steps.{◌>>=◌, ◌>>?◌}
 use Rattle.tta_arch.specs.declared.ends.Source.TheVariants as source
 use Rattle.tta_arch.specs.declared.ends.Dest.TheVariants as dest
 use Rattle.tta_asm.specs.declared.refusal.AsmRefusal.{AsmRefusal}

@@ -3,7 +3,7 @@
 use Rattle.std.specs.Prelude.{ℕ, Bool, true, false, ◌&&◌, if◌then◌else◌, List, [], ◌∷◌, drop, Option, Some, None, option_map, is_none, Result, Ok, Err, codes}
 use Rattle.std.specs.Str.{bytes_eq}
 use Rattle.tta_asm.specs.Cited.{Lexeme, is_keyword, is_mark, name_of, value_of, constant_of, or_refuse}
-use Rattle.tta_reading.specs.Steps.{◌>>=◌}
+use Rattle.tta_parse.specs.Steps.{◌>>=◌}
 use Rattle.tta_asm.specs.declared.pieces.Close.{Close}
 use Rattle.tta_asm.specs.declared.pieces.Close.TheVariants.{Comma, Colon, Semicolon, End}
 use Rattle.tta_asm.specs.Pieces.{Placed, Piece}

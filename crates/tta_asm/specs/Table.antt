@@ -1,7 +1,7 @@
 -- What a table of a machine's names gives.
 use Rattle.std.specs.Prelude.{◌≡◌, ℕ, List, Option, length, slice_get}
 use Rattle.tta_asm.specs.Cited.{Declared, named_in, UnitSet, stated, Units, Machine}
-use Rattle.tta_reading.specs.Steps.{◌>>?◌}
+use Rattle.tta_parse.specs.Steps.{◌>>?◌}
 use Rattle.tta_asm.specs.declared.parts.Part.{Part}
 use Rattle.tta_asm.specs.declared.parts.Part.TheVariants as part
 use Rattle.tta_asm.specs.declared.naming.Kind.{Kind}

@@ -2,7 +2,7 @@
 use Rattle.std.specs.Prelude.{ℕ, List, map, Result, Ok, Err}
 use Rattle.tta_asm.specs.declared.syntax.read.Read.{Read as WordsRead}
 use Rattle.tta_asm.specs.Cited.{name_of}
-use Rattle.tta_reading.specs.Steps.{◌>>=◌}
+use Rattle.tta_parse.specs.Steps.{◌>>=◌}
 use Rattle.tta_asm.specs.Pieces.{Placed}
 use Rattle.tta_asm.specs.Syntax.{Reading, read, next_word, behind_mark}
 use Rattle.tta_asm.specs.Seen.{placed_seen}

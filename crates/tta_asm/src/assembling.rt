@@ -24,7 +24,7 @@ use tta_code::{Code, Datum, Whole};
 use tta_connect::Net;
 use tta_list::Items;
 use tta_ops::UnitSet;
-use tta_reading::Names;
+use tta_parse::Names;
 
 /// Takes the pieces that are left, until a text is over. The first that is refused is reported.
 /// After an `Err` the draft is of no more use.

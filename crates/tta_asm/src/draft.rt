@@ -18,7 +18,7 @@ use crate::target::Target;
 use std::alloc::Global;
 use tta_code::Instruction;
 use tta_list::Items;
-use tta_reading::Names;
+use tta_parse::Names;
 
 /// What was read of a text: the slots of an instruction that has not ended, and the instructions.
 #[derive(Drop)]

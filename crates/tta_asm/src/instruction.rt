@@ -3,7 +3,7 @@
 ghost use Rattle.std.specs.Prelude.{◌≡◌, ◌^◌, ◌≤◌, ◌==◌, IfOk, Ok, length, map, nat_le, not};
 ghost use Rattle.std.specs.Prelude.{option_map, true};
 ghost use Rattle.std.specs.Option.{option_map_or};
-ghost use Rattle.tta_reading.specs.Steps.{refuse_if};
+ghost use Rattle.tta_parse.specs.Steps.{refuse_if};
 ghost use Rattle.tta_ops.specs.Set.{stated};
 ghost use Rattle.tta_code.specs.Legal.{is_legal, is_long};
 ghost use Rattle.tta_asm.specs.declared.refusal.AsmRefusal.TheVariants.{Illegal, Range, Slots};
@@ -20,7 +20,7 @@ use crate::target::Target;
 use std::alloc::Global;
 use tta_code::{Instruction, Long, Move, legal};
 use tta_list::Items;
-use tta_reading::Names;
+use tta_parse::Names;
 
 /// Where an instruction stands in a text: the line on which it ends, and how many instructions
 /// stand before it.

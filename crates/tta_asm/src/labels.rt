@@ -9,7 +9,7 @@ ghost use Rattle.tta_asm.specs.Seen.{piece_seen};
 
 use crate::pieces::{Close, Closed, Pieces, PlacedWord};
 use std::alloc::{AllocError, Global};
-use tta_reading::Names;
+use tta_parse::Names;
 
 /// What a label stands for.
 #[derive(Clone, Copy)]

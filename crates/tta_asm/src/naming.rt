@@ -12,7 +12,7 @@ use tta_arch::{File, ImmUnit, Machine, Template, Unit};
 use tta_disasm::op_name;
 use tta_list::Items;
 use tta_ops::UnitSet;
-use tta_reading::Names;
+use tta_parse::Names;
 
 /// The kind of a part.
 #[derive(Clone, Copy)]

@@ -2,14 +2,14 @@
 
 ghost use Rattle.std.specs.Prelude.{◌≡◌, ◌+◌, ◌^◌, ◌<◌, ◌≤◌, ◌∷◌, [], length, drop, map};
 ghost use Rattle.std.specs.Prelude.{Some, None, IfOk, OnOk, vec_capacity};
-ghost use Rattle.tta_reading.specs.Lines.{is_line_end, plain};
+ghost use Rattle.tta_parse.specs.Lines.{is_line_end, plain};
 ghost use Rattle.tta_asm.specs.Calls.{Cuts, IsShorter};
 ghost use Rattle.tta_asm.specs.Pieces as spec;
 ghost use Rattle.tta_asm.specs.Seen.{piece_seen};
 
 use std::alloc::AllocError;
 use std::marker::Model;
-use tta_reading::Word;
+use tta_parse::Word;
 use tta_text::{Kind, Scanner};
 
 /// A word with its place: its line, counted from 1, and its first byte, counted from 0.

@@ -3,7 +3,7 @@
 ghost use Rattle.std.specs.Prelude.{◌≡◌, ◌≤◌, Some, IfSome, length, nat_lt, option_copied};
 ghost use Rattle.std.specs.Prelude.{slice_get, true};
 ghost use Rattle.std.specs.List.{list_all};
-ghost use Rattle.tta_reading.specs.Steps.{only_if};
+ghost use Rattle.tta_parse.specs.Steps.{only_if};
 ghost use Rattle.tta_arch.specs.Rules.{IsMachine, is_bus};
 
 use tta_arch::{Bus, File, ImmUnit, Machine, Template, Unit};

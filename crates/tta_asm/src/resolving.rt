@@ -2,8 +2,8 @@
 
 ghost use Rattle.std.specs.Prelude.{◌≡◌, IfOk, IfSome, Ok, is_some, not, option_map, slice_get};
 ghost use Rattle.std.specs.Prelude.{true};
-ghost use Rattle.tta_reading.specs.Names.{named_in};
-ghost use Rattle.tta_reading.specs.Steps.{◌>>?◌, refuse_if};
+ghost use Rattle.tta_parse.specs.Names.{named_in};
+ghost use Rattle.tta_parse.specs.Steps.{◌>>?◌, refuse_if};
 ghost use Rattle.tta_ops.specs.Set.{stated};
 ghost use Rattle.tta_arch.specs.Joins.{joins};
 ghost use Rattle.tta_code.specs.Legal.{is_long};
@@ -26,7 +26,7 @@ use crate::resolving::sources::{source_of, word_of};
 use crate::target::Target;
 use tta_arch::{GuardRef, Machine, Source};
 use tta_code::{Long, Move};
-use tta_reading::Names;
+use tta_parse::Names;
 
 /// The register of a guard, where the part is a file of width 1 that has it.
 fn guard_at(m: &Machine, form: &GuardForm, part: Part) -> Option<GuardRef>

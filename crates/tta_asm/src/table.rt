@@ -6,7 +6,7 @@ use std::alloc::{AllocError, Global};
 use tta_arch::Machine;
 use tta_list::Items;
 use tta_ops::UnitSet;
-use tta_reading::Names;
+use tta_parse::Names;
 
 /// What the names of a machine stand for, made once, so that no look-up walks over the machine.
 #[derive(Drop)]
@@ -18,7 +18,7 @@ pub struct NameTable {
 
 impl NameTable {
     ghost use Rattle.std.specs.Prelude.{◌≡◌, IfOk};
-    ghost use Rattle.tta_reading.specs.Names.{named_in};
+    ghost use Rattle.tta_parse.specs.Names.{named_in};
     ghost use Rattle.tta_ops.specs.Set.{stated};
     ghost use Rattle.tta_asm.specs.Table.{IsTableOf, named_at};
 

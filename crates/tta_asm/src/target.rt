@@ -25,7 +25,7 @@ pub struct Target<'a> {
 
 impl<'a> Target<'a> {
     ghost use Rattle.std.specs.Prelude.{◌≡◌};
-    ghost use Rattle.tta_reading.specs.Names.{named_in};
+    ghost use Rattle.tta_parse.specs.Names.{named_in};
     ghost use Rattle.tta_ops.specs.Set.{stated};
     ghost use Rattle.tta_asm.specs.Parts.{parts_of};
     ghost use Rattle.tta_asm.specs.Table.{op_named};

@@ -13,8 +13,8 @@ use Rattle.tta_moves.proofs.Places.{either, kept_there}
 use Rattle.tta_moves.proofs.Steps.{write_at_once, step_write, does_written, step_place, kept_other, starting}
 use Rattle.tta_moves.proofs.Waiting.{stuck_all}
 use Rattle.tta_optim.proofs.Copies.{sure_word}
-use Rattle.tta_order.proofs.SameItem.{moves}
-use Rattle.tta_order.proofs.Listed.{state, next, past, ends, means_at}
+use Rattle.tta_reorder.proofs.SameItem.{moves}
+use Rattle.tta_reorder.proofs.Listed.{state, next, past, ends, means_at}
 use Rattle.tta_list.proofs.Tests.{some_same}
 use Rattle.tta_bind.specs.declared.seats.Seat.{Seat}
 use Rattle.tta_bind.specs.Seated.{seated_source, seated_target, seated, all_seated, last_write, same_writer, finds, does_same, reads_same, starts_same, had_same, can_have, AreSeats}

@@ -20,4 +20,4 @@ pub use Rattle.tta_moves.specs.declared.items.Item.TheVariants.{Long, Move}
 pub use Rattle.tta_moves.specs.declared.items.ItemSource.{ItemSource}
 pub use Rattle.tta_moves.specs.declared.items.ItemSource.TheVariants.{Address}
 pub use Rattle.tta_ops.specs.Units.{Units}
-pub use Rattle.tta_optim.specs.Kept.{Aim, Alike, AsksNoMore, IsStandIn, KeepsMeaning, ToStart, aim_of, is_address, names}
+pub use Rattle.tta_optim.specs.Kept.{Aim, Alike, AsksNoMore, IsEquivalent, KeepsMeaning, ToStart, aim_of, is_address, names}

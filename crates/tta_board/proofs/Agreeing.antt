@@ -5,7 +5,7 @@ use Rattle.std.specs.List.{AllByRecursion}
 use Rattle.tta_board.specs.Cited.{IsPrefixOf, Units, data_in, Core, AreComparable, output_given, group_output, IsCore, Pair, IsPair, core_in, core_memory, program_memory}
 use Rattle.tta_list.proofs.Lists.{all_one}
 use Rattle.tta_list.proofs.Sets.{over-length}
-use Rattle.tta_cores.proofs.Pairs.{made_at, made_from, cores_agree}
+use Rattle.tta_kahn.proofs.Pairs.{made_at, made_from, cores_agree}
 use Rattle.tta_board.specs.Board.{put_by}
 use Rattle.tta_board.specs.Laws.{AreSpaces, BoardAgrees}
 use Rattle.tta_board.proofs.Running.{board_runs}

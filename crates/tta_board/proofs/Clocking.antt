@@ -6,7 +6,7 @@ use Rattle.std.specs.List.{AllByRecursion}
 use Rattle.tta_board.specs.Cited.{Units, State, next, is_set, Asks, Puts, PutWord, Hardware, StandsFor, is_fault, is_waiting, HasStepped, Pin, InData, OutReady, OutValid, OutData, gives, Core, Network, Joined, output_of, feeder_of, after_step, stepped, interleaved, cycles_given, IsCore, HaveCome, UsesQueues, is_among, StepAtOnce, seen, new_words, CoresClock, waiting_for, IsShown}
 use Rattle.tta_hardware.specs.Signals.{Signal as Named}
 use Rattle.tta_hardware.proofs.Circuits.{words_stay, data_stays, frame_stays, rom_stays}
-use Rattle.tta_cores.proofs.CoreQueues.{cores_use}
+use Rattle.tta_kahn.proofs.CoreQueues.{cores_use}
 use Rattle.tta_joint.proofs.AtOnce.{in_turn, none_in_turn, stepped_goes}
 use Rattle.tta_joint.proofs.Joining.{seen_first, shown_of_all, joint_clock}
 use Rattle.tta_board.specs.Board.{Board, Inputs, lines, pins_of, AreWired, core_after, board_after}

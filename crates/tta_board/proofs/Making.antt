@@ -10,7 +10,7 @@ use Rattle.tta_hardware.specs.Signals.{Signal as Named}
 use Rattle.tta_hardware.proofs.Stepping.{one_clock}
 use Rattle.tta_hardware.proofs.Circuits.{is_settled, has_clocked, has_stored}
 use Rattle.tta_queue.proofs.Clocking.{queue_clocks}
-use Rattle.tta_cores.proofs.CoreQueues.{cores_use}
+use Rattle.tta_kahn.proofs.CoreQueues.{cores_use}
 use Rattle.tta_joint.proofs.AtOnce.{step_more}
 use Rattle.tta_joint.proofs.Joining.{seen_first}
 use Rattle.tta_board.specs.Board.{Board, Inputs, lines, pins_of, AreWired, core_after}

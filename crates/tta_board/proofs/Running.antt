@@ -5,8 +5,8 @@ use Rattle.std.specs.List.{AllByRecursion}
 use Rattle.std.proofs.lemmas.Bool.{ltb-true, ltb-false}
 use Rattle.std.proofs.lemmas.List.Sums.{fold-append}
 use Rattle.tta_board.specs.Cited.{Units, State, is_set, Puts, PutWord, is_fault, Core, Network, Joined, joined, after_step, turn, interleaved, output_of, cycles_given, first_states, cluster_given, IsCore, UsesQueues, HaveCome, waiting_for}
-use Rattle.tta_cores.proofs.Clusters.{next_core, turn_here}
-use Rattle.tta_cores.proofs.CoreQueues.{cores_use}
+use Rattle.tta_kahn.proofs.Clusters.{next_core, turn_here}
+use Rattle.tta_kahn.proofs.CoreQueues.{cores_use}
 use Rattle.tta_joint.proofs.AtOnce.{step_more, stepped_goes}
 use Rattle.tta_joint.proofs.Joining.{left_begins, came_before}
 use Rattle.tta_board.specs.Board.{Inputs, Powers, lines, pins_of, board_at, came_by, AreBoardClocks}

@@ -10,7 +10,7 @@ use Rattle.tta_code.specs.declared.code.Code.{Code as Program}
 use Rattle.tta_hardware.specs.Signals.{Signal as Named}
 use Rattle.tta_hardware.proofs.Fetching.{low, fetched_at}
 use Rattle.tta_hardware.proofs.Circuits.{goes_not, pc_begins, whole_begins, halted_begins, underway_begins, is_due_begins, data_stays, frame_stays, rom_stays}
-use Rattle.tta_cores.specs.Cluster as cluster
+use Rattle.tta_kahn.specs.Cluster as cluster
 
 -- A circuit with its code, a data space with these words and an empty frame stands for the start after a clock that begins anew.
 pub stands_anew : (u : Units) (m : Machine) (code : Program) (memory : List ℕ) (h : Hardware) (inputs : Named → ℕ)

@@ -6,12 +6,12 @@ pub use Rattle.tta_code.specs.Cycle.{Fault, Halted, Outcome, Running, State, Wai
 unfoldable pub use Rattle.tta_code.specs.Cycle.{next}
 pub use Rattle.tta_code.specs.Legal.{IsLegalCode}
 pub use Rattle.tta_code.specs.Whole.{data_in}
-pub use Rattle.tta_cores.specs.Cluster.{cluster_given, cycles, cycles_given, first_states, output_given}
-pub use Rattle.tta_cores.specs.Laws.{IsCore, IsPair, Pair, core_in, core_memory, program_memory}
-pub use Rattle.tta_cores.specs.Network.{AreComparable, Joined, Network, after_step, fed_to, feeder_of, interleaved, joined, no_input, output_of, stepped, turn}
-pub use Rattle.tta_cores.specs.Programs.{IsGroupRest, group_output}
-pub use Rattle.tta_cores.specs.Queues.{UsesQueues}
-pub use Rattle.tta_cores.specs.declared.cores.Core.{Core}
+pub use Rattle.tta_kahn.specs.Cluster.{cluster_given, cycles, cycles_given, first_states, output_given}
+pub use Rattle.tta_kahn.specs.Laws.{IsCore, IsPair, Pair, core_in, core_memory, program_memory}
+pub use Rattle.tta_kahn.specs.Network.{AreComparable, Joined, Network, after_step, fed_to, feeder_of, interleaved, joined, no_input, output_of, stepped, turn}
+pub use Rattle.tta_kahn.specs.Programs.{IsGroupRest, group_output}
+pub use Rattle.tta_kahn.specs.Queues.{UsesQueues}
+pub use Rattle.tta_kahn.specs.declared.cores.Core.{Core}
 pub use Rattle.tta_hardware.specs.Fields.{word_of}
 pub use Rattle.tta_hardware.specs.Hardware.{circuit_of, wire, wire_names}
 pub use Rattle.tta_hardware.specs.Order.{rank}
@@ -21,7 +21,7 @@ pub use Rattle.tta_hardware.specs.Theorem.{HasStepped, IsFed, is_fault, is_waiti
 pub use Rattle.tta_hardware.specs.Wires.{loads, longest, made_of}
 pub use Rattle.tta_joint.specs.Joint.{CoresClock, HaveCome, StepAtOnce, come_with, is_among, new_words, seen, stand_once, waiting_for, where_came}
 pub use Rattle.tta_joint.specs.Laws.{AreQueued, IsShown}
-pub use Rattle.tta_cores.specs.Cited.{AreWords}
+pub use Rattle.tta_kahn.specs.Cited.{AreWords}
 pub use Rattle.tta_list.specs.Input.{left}
 pub use Rattle.tta_list.specs.Prefix.{IsPrefixOf}
 pub use Rattle.tta_ops.specs.Units.{Units}

@@ -8,13 +8,13 @@ use Rattle.tta_lower.specs.declared.error.LowerError.TheVariants.{FrameFull, NoM
 use Rattle.tta_build.specs.declared.error.BuildError.{BuildError}
 use Rattle.tta_build.specs.Errors.{of_lower}
 use Rattle.tta_build.specs.declared.register.Analysed.{Analysed}
-use Rattle.tta_build.specs.declared.register.Sharing.TheVariants.{InTurn, Least}
+use Rattle.tta_build.specs.declared.register.RegisterOrder.TheVariants.{LongestFree, Least}
 use Rattle.tta_build.specs.declared.placed_program.Homed.{Homed}
 use Rattle.tta_build.specs.declared.placed_program.Listed.{Listed}
 use Rattle.tta_build.specs.declared.value.Assembled.{Assembled}
 use Rattle.tta_build.specs.declared.value.Compiled.{Compiled}
 use Rattle.tta_build.specs.Statement.{HasCause, unsupplied}
-use Rattle.tta_build.specs.Sharing.{AreHomesBy}
+use Rattle.tta_build.specs.RegisterOrder.{AreHomesBy}
 use Rattle.tta_build.specs.Lowered.{IsAnalysed}
 use Rattle.tta_build.specs.Compiled.{AreNoLonger}
 use Rattle.tta_build.specs.Compiled.{AreChosenFor}
@@ -46,14 +46,14 @@ module _ (u : Units) (m : Machine) (c : Choice) (p : Program) (machine : IsMachi
       covered.few_placed u m c p machine over choice program offers kept r.planned.placed.items (listed_chosen kept r allotted is)
 
   -- with home registers in turn they are no longer than plain ones
-  pub in_turn : (kept : Homes) (r : Homed) → AreHomesBy InTurn p c kept → r.homes ≡ kept → IsListedWith kept u m c p known r.listed
+  pub in_turn : (kept : Homes) (r : Homed) → AreHomesBy LongestFree p c kept → r.homes ≡ kept → IsListedWith kept u m c p known r.listed
       → IsHomedBest u m c p known r
   in_turn kept r by same is = record {
-    sharing = InTurn;
-    homes = subst (AreHomesBy InTurn p c) (sym same) by;
+    sharing = LongestFree;
+    homes = subst (AreHomesBy LongestFree p c) (sym same) by;
     listed = subst (λ (h : Homes). IsListedWith h u m c p known r.listed) (sym same) is;
     short = chosen_no_longer u m c p r.listed.planned.placed.items
-        (chosen_by u m c p InTurn kept r.listed.planned.placed.items by (listed_chosen kept r.listed by.allotted is));
+        (chosen_by u m c p LongestFree kept r.listed.planned.placed.items by (listed_chosen kept r.listed by.allotted is));
   }
 
   -- and so are the shorter of these and of those with the least free ones

@@ -9,10 +9,10 @@ use Rattle.tta_lower.specs.Statement.{IsCodeOf as IsRegisterCode}
 use Rattle.tta_lower.specs.Known.{first_by}
 use Rattle.tta_lower.proofs.SameHomes.{answers_know}
 use Rattle.tta_link.proofs.Whole.{linked_length}
-use Rattle.tta_compose.proofs.Composed.{fit, lists_mean, selected_stand, stand_for}
-use Rattle.tta_compose.proofs.Planning.{lists_planned}
-use Rattle.tta_compose.proofs.Linking.{lists_link, lists_agree}
-use Rattle.tta_compose.proofs.Room.{lists_fit}
+use Rattle.tta_compiler_laws.proofs.Composed.{fit, lists_mean, selected_stand, stand_for}
+use Rattle.tta_compiler_laws.proofs.Planning.{lists_planned}
+use Rattle.tta_compiler_laws.proofs.Linking.{lists_link, lists_agree}
+use Rattle.tta_compiler_laws.proofs.Room.{lists_fit}
 use Rattle.tta_build.specs.declared.error.BuildError.{BuildError}
 use Rattle.tta_build.specs.declared.error.BuildError.TheVariants as cause
 use Rattle.tta_build.specs.Statement.{IsAccepted, Covered, unsupplied}

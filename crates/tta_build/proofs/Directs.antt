@@ -5,9 +5,9 @@ use Rattle.std.specs.List.{list_all}
 use Rattle.std.proofs.Math.Nat.{mul-le-mul}
 use Rattle.tta_build.specs.Cited.{Units, Machine, IsMachine, Var, Word, Step, Put, Halt, End, Proc, Program, step_count, IsProgram, frame_need, arg_count, var_count, only_constants, puts, alone, Rir, one_block, lowered, known_by, BlockList, Placed, is_list, out_of, direct_list, AreBlocks, total_length, IsLinked, longest, HasRoom, Code, IsLegalCode, is_direct, constants_of, list_of_direct, AreRespected, AreFirstFits, AreRoomy, room_on}
 use Rattle.tta_link.proofs.Whole.{linked_length}
-use Rattle.tta_compose.proofs.Pairs.{is_alone}
-use Rattle.tta_compose.proofs.Directly.{direct_lowers, direct_is_list, direct_links, direct_agrees}
-use Rattle.tta_compose.proofs.DirectPlan.{direct_plan}
+use Rattle.tta_compiler_laws.proofs.Pairs.{is_alone}
+use Rattle.tta_compiler_laws.proofs.Directly.{direct_lowers, direct_is_list, direct_links, direct_agrees}
+use Rattle.tta_compiler_laws.proofs.DirectPlan.{direct_plan}
 use Rattle.tta_build.specs.declared.error.BuildError.{BuildError}
 use Rattle.tta_build.specs.declared.error.BuildError.TheVariants as cause
 use Rattle.tta_build.specs.Compiled.{CompilesTo, OfOneList}

@@ -8,7 +8,7 @@ use Rattle.tta_list.proofs.Lists.{element}
 use Rattle.tta_link.proofs.Whole.{linked_length}
 use Rattle.tta_build.specs.declared.error.BuildError.{BuildError}
 use Rattle.tta_build.specs.declared.error.BuildError.TheVariants as cause
-use Rattle.tta_build.specs.declared.register.Sharing.TheVariants.{InTurn}
+use Rattle.tta_build.specs.declared.register.RegisterOrder.TheVariants.{LongestFree}
 use Rattle.tta_build.specs.Candidates.{IsChosen}
 use Rattle.tta_build.specs.Plain.{IsNoLonger, OfDirect, OfOther}
 use Rattle.tta_build.specs.Compiled.{AreNoLonger, AreChosenFor, AreCompiled, CompilesTo, IsWithinPlain, CompiledIsShort, OfOneList, OfLists}
@@ -58,7 +58,7 @@ have_plain m (b ∷ blocks) (p ∷ ps) n each = on (each 0 b p refl refl) (have_
 
 module _ (u : Units) (m : Machine) (c : Choice) (p : Program) where
   -- with home registers in turn the lists after the passes are plain ones
-  pub plain_no_longer : (lists : List BlockList) (ps : List Placed) → AreSelectedBy InTurn u m c p lists → HavePlain m lists ps → AreNoLonger u m c p ps
+  pub plain_no_longer : (lists : List BlockList) (ps : List Placed) → AreSelectedBy LongestFree u m c p lists → HavePlain m lists ps → AreNoLonger u m c p ps
   plain_no_longer lists ps is have =
       let s = is.of in record {
         plain = have.plain;
@@ -75,7 +75,7 @@ module _ (u : Units) (m : Machine) (c : Choice) (p : Program) where
       }
 
   -- so the placements that are chosen for them are no longer
-  pub chosen_no_longer : (ps : List Placed) → AreChosenBy InTurn u m c p ps → AreNoLonger u m c p ps
+  pub chosen_no_longer : (ps : List Placed) → AreChosenBy LongestFree u m c p ps → AreNoLonger u m c p ps
   chosen_no_longer ps by =
       plain_no_longer by.lists ps by.selected
       (have_plain m by.lists ps by.chosen.count (λ k b q e f. one_no_longer m b q (by.chosen.each k b q e f)))

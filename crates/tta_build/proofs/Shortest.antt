@@ -7,8 +7,8 @@ use Rattle.tta_build.specs.Cited.{Machine, BlockList, Placed, Respects, IsFirstF
 use Rattle.tta_list.proofs.Lists.{slice_get-push, slice_get-longer, element, item_behind as last_there, length_more as push_length}
 use Rattle.tta_build.specs.Candidates.{IsCandidate, IsShortest, IsChosen, AreChosen}
 use Rattle.tta_build.specs.declared.best_candidate.Chosen.{Chosen}
-use Rattle.tta_build.specs.declared.trail.Trail.{Trail}
-use Rattle.tta_build.specs.Trail.{IsTrail, last_of}
+use Rattle.tta_build.specs.declared.trail.Derivation.{Derivation}
+use Rattle.tta_build.specs.Derivation.{IsTrail, last_of}
 use Rattle.tta_build.specs.Placing.{IsFitOf, IsBest}
 use Rattle.tta_build.proofs.Trails.{trail_candidate, candidates_more}
 use Rattle.tta_build.proofs.Placements.{SoFar}
@@ -116,15 +116,15 @@ shortest_more m lists b p q r s is same = by (nat_lt q.length p.length) refl sam
 -- ---- with the trails
 
 -- the placement is a first fit of the list to which the trail leads that is kept
-fit_of : (m : Machine) (t : Trail) (r : Chosen) → IsFitOf m t r → IsFirstFit m (last_of r.trail).items r.placed
-fit_of m t r is = subst (λ (x : Trail). IsFirstFit m (last_of x).items r.placed) (sym is.is) is.first
+fit_of : (m : Machine) (t : Derivation) (r : Chosen) → IsFitOf m t r → IsFirstFit m (last_of r.trail).items r.placed
+fit_of m t r is = subst (λ (x : Derivation). IsFirstFit m (last_of x).items r.placed) (sym is.is) is.first
 
 -- that list is placed so
-placed_by : (m : Machine) (t : Trail) (r : Chosen) → IsFitOf m t r → IsPlacedBy m (last_of t) r.placed
+placed_by : (m : Machine) (t : Derivation) (r : Chosen) → IsFitOf m t r → IsPlacedBy m (last_of t) r.placed
 placed_by m t r is = record { first = is.first; respects = is.respects; room = is.room }
 
 -- of a block's list after the passes alone the placement is the best
-pub best_one : (m : Machine) (b : BlockList) (t : Trail) (r : Chosen) → IsTrail m b t → last_of t ≡ optimised m b → IsFitOf m t r → IsBest m b r
+pub best_one : (m : Machine) (b : BlockList) (t : Derivation) (r : Chosen) → IsTrail m b t → last_of t ≡ optimised m b → IsFitOf m t r → IsBest m b r
 best_one m b t r trail plain is = record {
   chosen = record {
     lists = last_of t ∷ [];
@@ -139,7 +139,7 @@ best_one m b t r trail plain is = record {
   one (suc k) l e = absurd cc
 
 -- with a trail more the shorter of two placements is the best, and the one before on a tie
-pub best_more : (m : Machine) (b : BlockList) (t : Trail) (p q r : Chosen) → IsBest m b p → IsTrail m b t → IsFitOf m t q
+pub best_more : (m : Machine) (b : BlockList) (t : Derivation) (p q r : Chosen) → IsBest m b p → IsTrail m b t → IsFitOf m t q
     → r ≡ (if nat_lt q.placed.length p.placed.length then q else p) → IsBest m b r
 best_more m b t p q r best trail is same = by (nat_lt q.placed.length p.placed.length) refl same where
   chosen : (x : Placed) → x ≡ (if nat_lt q.placed.length p.placed.length then q.placed else p.placed) → IsChosen m b x

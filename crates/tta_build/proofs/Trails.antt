@@ -3,34 +3,34 @@ use Rattle.std.proofs.Common.{◌≡◌, ℕ, zero, suc, true, List, [], ◌∷�
 use Rattle.std.specs.Prelude.{IfSome, unwrap_or, Result, Ok, OnOk}
 use Rattle.std.specs.Option.{option_map_or}
 use Rattle.tta_list.proofs.Lists.{slice_get-push, slice_get-longer}
-use Rattle.tta_build.specs.Cited.{Machine, BlockList, is_list, IsStandIn, optimised}
+use Rattle.tta_build.specs.Cited.{Machine, BlockList, is_list, IsEquivalent, optimised}
 use Rattle.tta_optim.proofs.StandIns.{stands_itself, stand_in_next}
 use Rattle.tta_optim.proofs.Passing.{passed_is}
-use Rattle.tta_compose.proofs.Composed.{optimised_stand}
+use Rattle.tta_compiler_laws.proofs.Composed.{optimised_stand}
 use Rattle.tta_build.specs.Candidates.{IsCandidate, AreCandidates}
 use Rattle.tta_build.specs.declared.trail.Ordered.{Ordered}
 use Rattle.tta_build.specs.declared.trail.Round.{Round}
 use Rattle.tta_build.specs.declared.trail.Rounds.{Rounds}
 use Rattle.tta_build.specs.declared.trail.Start.{Start}
-use Rattle.tta_build.specs.declared.trail.Trail.{Trail}
-use Rattle.tta_build.specs.Trail.{IsStart, start_of, order_of, IsRound, AreRounds, rounds_last, IsTrail, AreTrailsOf, last_of}
+use Rattle.tta_build.specs.declared.trail.Derivation.{Derivation}
+use Rattle.tta_build.specs.Derivation.{IsStart, start_of, order_of, IsRound, AreRounds, rounds_last, IsTrail, AreTrailsOf, last_of}
 
 -- ---- one round
 
 -- what the passes make of a list that may be placed for the block's is a candidate
-candidate : (m : Machine) (b other : BlockList) → IsStandIn m b other → IsCandidate m b (optimised m other)
+candidate : (m : Machine) (b other : BlockList) → IsEquivalent m b other → IsCandidate m b (optimised m other)
 candidate m b other stands = let made = optimised_stand m b other stands in record { stands = made.0; forms = made.1 }
 
 -- a candidate of a list that may be placed for the block's is a candidate of the block
-candidate_next : (m : Machine) (b other r : BlockList) → IsStandIn m b other → IsCandidate m other r → IsCandidate m b r
+candidate_next : (m : Machine) (b other r : BlockList) → IsEquivalent m b other → IsCandidate m other r → IsCandidate m b r
 candidate_next m b other r stands is = record { stands = stand_in_next m b other r stands is.stands; forms = is.forms }
 
 -- a list that takes another's place, or the other itself, may be placed for it
-or_stands : (m : Machine) (b : BlockList) (o : Option BlockList) → IfSome o (λ l. IsStandIn m b l) → IsStandIn m b (unwrap_or o b)
+or_stands : (m : Machine) (b : BlockList) (o : Option BlockList) → IfSome o (λ l. IsEquivalent m b l) → IsEquivalent m b (unwrap_or o b)
 or_stands m b None is = stands_itself m b
 or_stands m b (Some l) is = is
 
-order_stands : (m : Machine) (list : BlockList) (o : Option Ordered) → IfSome o (λ x. IsStandIn m list x.list) → IsStandIn m list (order_of list o)
+order_stands : (m : Machine) (list : BlockList) (o : Option Ordered) → IfSome o (λ x. IsEquivalent m list x.list) → IsEquivalent m list (order_of list o)
 order_stands m list None is = stands_itself m list
 order_stands m list (Some o) is = is
 
@@ -60,26 +60,26 @@ rounds_candidate m list r is = by r.second is.second where
   by (Some n) second = candidate_next m list r.first.passed.lively n.passed.lively first.stands (round_candidate m r.first.passed.lively n second)
 
 -- the list with which the first round begins may be placed for the selected one
-start_stands : (m : Machine) (b : BlockList) (s : Start) → IsStart m b s → IsStandIn m b (start_of b s)
+start_stands : (m : Machine) (b : BlockList) (s : Start) → IsStart m b s → IsEquivalent m b (start_of b s)
 start_stands m b s is =
     let served = unwrap_or s.served b in
     stand_in_next m b served (start_of b s) (or_stands m b s.served is.served) (or_stands m served s.bound is.bound)
 
 -- the list to which a trail leads is a candidate of the block
-pub trail_candidate : (m : Machine) (b : BlockList) (t : Trail) → IsTrail m b t → IsCandidate m b (last_of t)
+pub trail_candidate : (m : Machine) (b : BlockList) (t : Derivation) → IsTrail m b t → IsCandidate m b (last_of t)
 trail_candidate m b t is =
     candidate_next m b (start_of b t.start) (last_of t) (start_stands m b t.start is.start)
     (rounds_candidate m (start_of b t.start) t.rounds is.rounds)
 
 -- it is a list of the machine, where the block's is one
-pub trail_list : (m : Machine) (b : BlockList) (t : Trail) → IsTrail m b t → is_list m b.items ≡ true → is_list m (last_of t).items ≡ true
+pub trail_list : (m : Machine) (b : BlockList) (t : Derivation) → IsTrail m b t → is_list m b.items ≡ true → is_list m (last_of t).items ≡ true
 trail_list m b t is there = (trail_candidate m b t is).stands.spare.list there
 
 -- ---- some trails of a block
 
 -- one trail more
-pub trails_more : (m : Machine) (b : BlockList) (ts us : List Trail) (t : Trail) → us ≡ ts ++ t ∷ [] → IsTrail m b t → AreTrailsOf m b ts → AreTrailsOf m b us
-trails_more m b ts us t same is are k x e = by (slice_get-push ts t k x (subst (λ (vs : List Trail). slice_get vs k ≡ Some x) same e)) where
+pub trails_more : (m : Machine) (b : BlockList) (ts us : List Derivation) (t : Derivation) → us ≡ ts ++ t ∷ [] → IsTrail m b t → AreTrailsOf m b ts → AreTrailsOf m b us
+trails_more m b ts us t same is are k x e = by (slice_get-push ts t k x (subst (λ (vs : List Derivation). slice_get vs k ≡ Some x) same e)) where
   by : (slice_get ts k ≡ Some x) ⊎ ((k ≡ length ts) × (t ≡ x)) → IsTrail m b x
   by (inl f) = are k x f
   by (inr f) = subst (IsTrail m b) f.1 is
@@ -96,16 +96,16 @@ candidates_more m b lists l is are = record {
   by k x (inr f) = subst (IsCandidate m b) f.1 is
 
 -- of no trail there is one that is not the block's
-pub no_trails : (m : Machine) (b : BlockList) (ts : List Trail) → ts ≡ [] → AreTrailsOf m b ts
-no_trails m b ts none k t e = let there = subst (λ (us : List Trail). slice_get us k ≡ Some t) none e in absurd cc
+pub no_trails : (m : Machine) (b : BlockList) (ts : List Derivation) → ts ≡ [] → AreTrailsOf m b ts
+no_trails m b ts none k t e = let there = subst (λ (us : List Derivation). slice_get us k ≡ Some t) none e in absurd cc
 
 -- what holds where a call goes well holds where it went well
 pub on_ok : {T E : Type 0} {P : Type 0} {r : Result T E} {x : T} → r ≡ Ok x → OnOk r P → P
 on_ok {P = P} e h = subst (λ s. OnOk s P) e h
 
 -- the trail that stands behind some of those of a block is the block's
-pub next_trail : (m : Machine) (b : BlockList) (all ts rest : List Trail) (t : Trail) → AreTrailsOf m b all → ts ++ t ∷ rest ≡ all → IsTrail m b t
-next_trail m b all ts rest t are same = are (length ts) t (subst (λ (us : List Trail). slice_get us (length ts) ≡ Some t) same (behind ts)) where
-  behind : (us : List Trail) → slice_get (us ++ t ∷ rest) (length us) ≡ Some t
+pub next_trail : (m : Machine) (b : BlockList) (all ts rest : List Derivation) (t : Derivation) → AreTrailsOf m b all → ts ++ t ∷ rest ≡ all → IsTrail m b t
+next_trail m b all ts rest t are same = are (length ts) t (subst (λ (us : List Derivation). slice_get us (length ts) ≡ Some t) same (behind ts)) where
+  behind : (us : List Derivation) → slice_get (us ++ t ∷ rest) (length us) ≡ Some t
   behind [] = refl
   behind (u ∷ us) = behind us

@@ -1,10 +1,10 @@
 -- The candidates of a block, and which of their placements stays.
 use Rattle.std.specs.Prelude.{◌≡◌, ℕ, ◌<◌, ◌≤◌, List, length, Some, slice_get}
-use Rattle.tta_build.specs.Cited.{Machine, BlockList, Placed, IsStandIn, optimised, HasForms, AreFirstFits, AreRoomy}
+use Rattle.tta_build.specs.Cited.{Machine, BlockList, Placed, IsEquivalent, optimised, HasForms, AreFirstFits, AreRoomy}
 
 -- a list is a candidate of a block: it may be placed for the block's list, and is in all forms
 pub record IsCandidate (m : Machine) (b l : BlockList) : Type 0 where
-  pub stands : IsStandIn m b l
+  pub stands : IsEquivalent m b l
   pub forms : HasForms m l
 
 -- Lists are candidates of a block, and the first of them is the block's list after the passes.

@@ -1,5 +1,5 @@
 -- What the definitions and lemmas of this crate cite of other crates, passed on from one place. Declares nothing.
-pub use Rattle.tta_agree.specs.Agrees.{Agrees, AgreesAt, program_at}
+pub use Rattle.tta_refines.specs.Agrees.{Agrees, AgreesAt, program_at}
 pub use Rattle.tta_alloc.specs.Allotted.{AreAllotted}
 pub use Rattle.tta_alloc.specs.Homes.{IsScan}
 pub use Rattle.tta_alloc.specs.Turns.{AreInTurn}
@@ -16,13 +16,13 @@ pub use Rattle.tta_code.specs.Legal.{IsLegalCode, IsLegalWhole}
 pub use Rattle.tta_code.specs.Whole.{Whole, fits, laid_by, rises, rises_from}
 pub use Rattle.tta_code.specs.declared.code.Code.{Code}
 pub use Rattle.tta_code.specs.declared.whole.Datum.{Datum}
-pub use Rattle.tta_compose.specs.Compiler.{AreStandIns, IsPair, optimised, raw}
-pub use Rattle.tta_compose.specs.Direct.{constants_of, is_brought, is_constant_or_halt, is_direct, is_direct_proc, list_of_direct}
-pub use Rattle.tta_compose.specs.Linking.{AreFirstFits, AreRespected}
-pub use Rattle.tta_compose.specs.Needs.{are_offered, first_failing, first_unoffered, is_served, need_of, unoffered_in}
-pub use Rattle.tta_compose.specs.Packed.{IsLength, IsPacked, IsPlan}
-pub use Rattle.tta_compose.specs.Planned.{HasForms}
-pub use Rattle.tta_compose.specs.Room.{AreRoomy, room_on}
+pub use Rattle.tta_compiler_laws.specs.Compiler.{AreStandIns, IsPair, optimised, raw}
+pub use Rattle.tta_compiler_laws.specs.Direct.{constants_of, is_brought, is_constant_or_halt, is_direct, is_direct_proc, list_of_direct}
+pub use Rattle.tta_compiler_laws.specs.Linking.{AreFirstFits, AreRespected}
+pub use Rattle.tta_compiler_laws.specs.Needs.{are_offered, first_failing, first_unoffered, is_served, need_of, unoffered_in}
+pub use Rattle.tta_compiler_laws.specs.Packed.{IsLength, IsPacked, IsPlan}
+pub use Rattle.tta_compiler_laws.specs.Planned.{HasForms}
+pub use Rattle.tta_compiler_laws.specs.Room.{AreRoomy, room_on}
 pub use Rattle.tta_connect.specs.Coverage.{IsChoice, call_if, call_in, failed_rule, homes_from, homes_of, hub_of, is_home_file, is_usable_at, offered, offered_by, registers_from}
 pub use Rattle.tta_connect.specs.declared.choice.Choice.{Choice}
 pub use Rattle.tta_flow.specs.Blocks.{IsFlow}
@@ -50,7 +50,7 @@ pub use Rattle.tta_moves.specs.declared.items.Item.{Item}
 pub use Rattle.tta_moves.specs.declared.items.Placed.{Placed}
 pub use Rattle.tta_ops.specs.Set.{stated}
 pub use Rattle.tta_ops.specs.Units.{Units}
-pub use Rattle.tta_optim.specs.Kept.{IsStandIn}
+pub use Rattle.tta_optim.specs.Kept.{IsEquivalent}
 pub use Rattle.tta_optim.specs.Passed.{IsPassed}
 pub use Rattle.tta_program.specs.Direct.{alone, only_constants, puts}
 pub use Rattle.tta_program.specs.Program.{Program, data_of, datum_of, first_outside, step_count}
@@ -64,8 +64,8 @@ pub use Rattle.tta_program.specs.declared.program.DataLine.{DataLine}
 pub use Rattle.tta_program.specs.declared.program.Proc.{Proc}
 pub use Rattle.tta_program.specs.declared.step.Step.{Step}
 pub use Rattle.tta_program.specs.declared.step.Step.TheVariants.{Apply, Copy, End, Goto, Halt, If, Invoke, Load, Put, Return, Store, Take, When}
-pub use Rattle.tta_rcode.specs.Direct.{one_block}
-pub use Rattle.tta_rcode.specs.declared.code.Rir.{Rir}
+pub use Rattle.tta_lir.specs.Direct.{one_block}
+pub use Rattle.tta_lir.specs.declared.code.Rir.{Rir}
 pub use Rattle.tta_sched.specs.Room.{HasRoom, longest}
 pub use Rattle.tta_select.specs.Direct.{direct_list, out_of}
 pub use Rattle.tta_select.specs.Needs.{fits_block, is_offered}

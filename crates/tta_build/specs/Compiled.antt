@@ -1,8 +1,8 @@
 -- What is compiled of a pair: the placements of which its code consists, and how many words they take.
 use Rattle.std.specs.Prelude.{◌≡◌, ◌≤◌, true, false, ℕ, List, [], ◌∷◌, length}
 use Rattle.tta_build.specs.Cited.{Units, Machine, Choice, IsChoice, Program, frame_need, Block, Live, IsFlow, IsLive, Homes, AreAllotted, known_by, BlockList, Placed, total_length, raw, is_direct, list_of_direct, AreFirstFits}
-use Rattle.tta_build.specs.declared.register.Sharing.{Sharing}
-use Rattle.tta_build.specs.Sharing.{AreGivenBy}
+use Rattle.tta_build.specs.declared.register.RegisterOrder.{RegisterOrder}
+use Rattle.tta_build.specs.RegisterOrder.{AreGivenBy}
 use Rattle.tta_build.specs.Candidates.{AreChosen}
 use Rattle.tta_build.specs.Plain.{IsPlain, IsPlainCode}
 
@@ -26,13 +26,13 @@ pub record AreNoLonger (u : Units) (m : Machine) (c : Choice) (p : Program) (pla
   pub no_longer : total_length placements ≤ total_length plain
 
 -- The lists that are selected for a program, whose home registers are given in this way.
-pub record AreSelectedBy (sharing : Sharing) (u : Units) (m : Machine) (c : Choice) (p : Program) (lists : List BlockList) : Type 0 where
+pub record AreSelectedBy (sharing : RegisterOrder) (u : Units) (m : Machine) (c : Choice) (p : Program) (lists : List BlockList) : Type 0 where
   pub of : AreSelected u m c p lists
   pub given : AreGivenBy sharing p (length c.homes) of.kept
 
 -- Placements that are chosen for such lists: for each the shortest of its candidates, of which the first is the list after
 -- the passes.
-pub record AreChosenBy (sharing : Sharing) (u : Units) (m : Machine) (c : Choice) (p : Program) (placements : List Placed) : Type 0 where
+pub record AreChosenBy (sharing : RegisterOrder) (u : Units) (m : Machine) (c : Choice) (p : Program) (placements : List Placed) : Type 0 where
   pub lists : List BlockList
   pub selected : AreSelectedBy sharing u m c p lists
   pub chosen : AreChosen m lists placements
@@ -40,7 +40,7 @@ pub record AreChosenBy (sharing : Sharing) (u : Units) (m : Machine) (c : Choice
 -- Placements are chosen for a program: home registers are given in one of the two ways, and they are together no longer
 -- than plain ones.
 pub record AreChosenFor (u : Units) (m : Machine) (c : Choice) (p : Program) (placements : List Placed) : Type 0 where
-  pub sharing : Sharing
+  pub sharing : RegisterOrder
   pub by : AreChosenBy sharing u m c p placements
   pub short : AreNoLonger u m c p placements
 

@@ -9,8 +9,8 @@ pub mod Parts
 pub mod Completes
 pub mod Converted
 pub mod Lowered
-pub mod Trail
+pub mod Derivation
 pub mod Placing
-pub mod Sharing
+pub mod RegisterOrder
 pub mod Excludes
 pub mod Value

@@ -1,14 +1,14 @@
 -- Which candidates of a block are made, which of their placements stays, and the lists and placements of all blocks.
 use Rattle.std.specs.Prelude.{◌≡◌, List, IfSome}
-use Rattle.tta_build.specs.Cited.{Machine, BlockList, Respects, IsFirstFit, HasRoom, IsStandIn, AreFirstFits}
-use Rattle.tta_build.specs.declared.trail.Trail.{Trail}
+use Rattle.tta_build.specs.Cited.{Machine, BlockList, Respects, IsFirstFit, HasRoom, IsEquivalent, AreFirstFits}
+use Rattle.tta_build.specs.declared.trail.Derivation.{Derivation}
 use Rattle.tta_build.specs.declared.candidates.Bound.{Bound}
 use Rattle.tta_build.specs.declared.candidates.Choices.{Choices}
 use Rattle.tta_build.specs.declared.best_candidate.Chosen.{Chosen}
 use Rattle.tta_build.specs.declared.best_candidate.Placements.{Placements}
 use Rattle.tta_build.specs.declared.best_candidate.Planned.{Planned}
 use Rattle.tta_build.specs.Candidates.{IsChosen, AreChosen}
-use Rattle.tta_build.specs.Trail.{AreRounds, IsTrail, AreTrails, last_of, lasts_of}
+use Rattle.tta_build.specs.Derivation.{AreRounds, IsTrail, AreTrails, last_of, lasts_of}
 
 -- ---- candidates
 
@@ -19,13 +19,13 @@ pub record AreChoices (m : Machine) (list : BlockList) (r : Choices) : Type 0 wh
 
 -- a list with its operations on other units may be placed for a list, and these are rounds of it
 pub record IsBound (m : Machine) (list : BlockList) (r : Bound) : Type 0 where
-  pub stands : IsStandIn m list r.list
+  pub stands : IsEquivalent m list r.list
   pub choices : AreChoices m r.list r.choices
 
 -- ---- the placement of a block
 
 -- a trail is kept with a first fit, which has room, of the list to which it leads
-pub record IsFitOf (m : Machine) (t : Trail) (r : Chosen) : Type 0 where
+pub record IsFitOf (m : Machine) (t : Derivation) (r : Chosen) : Type 0 where
   pub is : r.trail ≡ t
   pub first : IsFirstFit m (last_of t).items r.placed
   pub respects : Respects m (last_of t).items r.placed

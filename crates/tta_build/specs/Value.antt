@@ -2,14 +2,14 @@
 use Rattle.std.specs.Prelude.{◌≡◌, true, false, [], ◌∷◌, Some, None}
 use Rattle.tta_build.specs.Cited.{Units, Machine, Choice, IsChoice, Program, Homes, selected, Code, IsLinked, is_direct, list_of_direct, AreFirstFits, AreRoomy}
 use Rattle.tta_lower.specs.Statement.{IsCodeOf}
-use Rattle.tta_build.specs.declared.register.Sharing.{Sharing}
+use Rattle.tta_build.specs.declared.register.RegisterOrder.{RegisterOrder}
 use Rattle.tta_build.specs.declared.register.Analysed.{Analysed}
 use Rattle.tta_build.specs.declared.best_candidate.Planned.{Planned}
 use Rattle.tta_build.specs.declared.placed_program.Homed.{Homed}
 use Rattle.tta_build.specs.declared.placed_program.Listed.{Listed}
 use Rattle.tta_build.specs.declared.value.Assembled.{Assembled}
 use Rattle.tta_build.specs.declared.value.Compiled.{Compiled}
-use Rattle.tta_build.specs.Sharing.{AreHomesBy}
+use Rattle.tta_build.specs.RegisterOrder.{AreHomesBy}
 use Rattle.tta_build.specs.Lowered.{IsAnalysed, IsLoweredAs}
 use Rattle.tta_build.specs.Compiled.{AreNoLonger}
 use Rattle.tta_build.specs.Placing.{ArePlanned}
@@ -24,7 +24,7 @@ pub record IsListedWith (kept : Homes) (u : Units) (m : Machine) (c : Choice) (p
 
 -- Homes are given in one of the two ways, and all is made with them; the placements are together no longer than plain ones.
 pub record IsHomedBest (u : Units) (m : Machine) (c : Choice) (p : Program) (known : Analysed) (r : Homed) : Type 0 where
-  pub sharing : Sharing
+  pub sharing : RegisterOrder
   pub homes : AreHomesBy sharing p c r.homes
   pub listed : IsListedWith r.homes u m c p known r.listed
   pub short : AreNoLonger u m c p r.listed.planned.placed.items
@@ -42,7 +42,7 @@ gathered known homed code = record {
 -- longer than plain ones; and the code is that of the placements, one after another.
 pub record IsAssembled (u : Units) (m : Machine) (c : Choice) (p : Program) (r : Assembled) : Type 0 where
   pub known : IsAnalysed p r.lowered.known
-  pub sharing : Sharing
+  pub sharing : RegisterOrder
   pub homes : AreHomesBy sharing p c r.lowered.homes
   pub code : IsCodeOf p r.lowered.known.flow.blocks r.lowered.known.live r.lowered.homes m.frame_words r.lowered.code
   pub planned : ArePlanned m (selected m c u r.lowered.code) r.planned

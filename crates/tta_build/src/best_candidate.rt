@@ -3,24 +3,24 @@
 ghost use Rattle.std.specs.Prelude.{◌≡◌, true, IfOk};
 ghost use Rattle.std.specs.List.{list_all};
 ghost use Rattle.tta_moves.specs.Slots.{is_list};
-ghost use Rattle.tta_build.specs.Trail.{AreTrailsOf, last_of};
+ghost use Rattle.tta_build.specs.Derivation.{AreTrailsOf, last_of};
 ghost use Rattle.tta_build.specs.Placing.{IsFitOf, IsBest};
 ghost use Rattle.tta_build.specs.Placing.{ArePlacements, ArePlanned};
 
 use crate::candidates::Candidates;
 use crate::keeping::{beside, chosen};
 use crate::least::Earliest;
-use crate::trail::Trail;
+use crate::trail::Derivation;
 use std::alloc::{AllocError, Global};
 use tta_arch::Machine;
-use tta_connect::Covered;
+use tta_connect::BuildTarget;
 use tta_moves::{BlockList, Placed};
 use tta_sched::Placer;
 
 /// The placement of a block, and how its list came of the selected one.
 #[derive(Drop)]
 pub struct Chosen {
-    pub trail: Trail,
+    pub trail: Derivation,
     pub placed: Placed,
 }
 
@@ -31,7 +31,7 @@ pub struct Planned {
     pub selected: Vec<BlockList>,
     /// How the list that is placed came of each of them. A direct pair has none: its list is placed as
     /// it is selected.
-    pub trails: Vec<Trail>,
+    pub trails: Vec<Derivation>,
     /// The placements.
     pub placed: Vec<Placed>,
 }
@@ -40,8 +40,8 @@ pub struct Planned {
 fn fit_of(
     alloc: Global,
     placer: &mut Placer,
-    on: &Covered<'_>,
-    trail: Trail,
+    on: &BuildTarget<'_>,
+    trail: Derivation,
 ) -> Result<Chosen, AllocError>
     requires list { is_list on.now.joined.machine.now (last_of trail).items ≡ true }
     ensures { IfOk result (λ r. IsFitOf on.now.joined.machine.now trail r) }
@@ -56,10 +56,10 @@ fn fit_of(
 fn shortest(
     alloc: Global,
     placer: &mut Placer,
-    on: &Covered<'_>,
+    on: &BuildTarget<'_>,
     b: &BlockList,
     so_far: Chosen,
-    others: Vec<Trail>,
+    others: Vec<Derivation>,
 ) -> Result<Chosen, AllocError>
     requires list { is_list on.now.joined.machine.now b.now.items ≡ true }
     requires best { IsBest on.now.joined.machine.now b.now so_far }
@@ -76,7 +76,7 @@ fn shortest(
 }
 
 /// Whether trails come of a list in which loads are served.
-fn are_served(trails: &[Trail]) -> bool {
+fn are_served(trails: &[Derivation]) -> bool {
     match trails.get(0) {
         None => false,
         Some(trail) => trail.start.served.is_some(),
@@ -108,7 +108,7 @@ impl Chooser {
     fn plain(
         &mut self,
         alloc: Global,
-        on: &Covered<'_>,
+        on: &BuildTarget<'_>,
         b: &BlockList,
     ) -> Result<Chosen, AllocError>
         requires list { is_list on.now.joined.machine.now b.now.items ≡ true }
@@ -124,7 +124,7 @@ impl Chooser {
     fn with_last(
         &mut self,
         alloc: Global,
-        on: &Covered<'_>,
+        on: &BuildTarget<'_>,
         b: &BlockList,
         so_far: Chosen,
     ) -> Result<Chosen, AllocError>
@@ -142,7 +142,7 @@ impl Chooser {
     fn place(
         &mut self,
         alloc: Global,
-        on: &Covered<'_>,
+        on: &BuildTarget<'_>,
         b: &BlockList,
     ) -> Result<Chosen, AllocError>
         requires list { is_list on.now.joined.machine.now b.now.items ≡ true }
@@ -167,7 +167,7 @@ impl Chooser {
 /// The trails and placements of blocks.
 #[derive(Drop)]
 pub struct Placements {
-    pub trails: Vec<Trail>,
+    pub trails: Vec<Derivation>,
     pub placed: Vec<Placed>,
 }
 
@@ -176,7 +176,7 @@ fn place_each(
     alloc: Global,
     chooser: &mut Chooser,
     blocks: &[BlockList],
-    on: &Covered<'_>,
+    on: &BuildTarget<'_>,
 ) -> Result<Placements, AllocError>
     requires lists { list_all (λ b. is_list on.now.joined.machine.now b.items) blocks.now ≡ true }
     ensures { IfOk result (λ r. ArePlacements on.now.joined.machine.now blocks.now r) }
@@ -197,7 +197,7 @@ fn place_each(
 /// For each of these blocks the shortest first fit of its candidates, by a table of its own.
 fn placements_of(
     alloc: Global,
-    on: &Covered<'_>,
+    on: &BuildTarget<'_>,
     blocks: &[BlockList],
 ) -> Result<Placements, AllocError>
     requires lists { list_all (λ b. is_list on.now.joined.machine.now b.items) blocks.now ≡ true }
@@ -211,7 +211,7 @@ fn placements_of(
 /// machine. The only error is out of memory.
 pub fn plan_lists(
     alloc: Global,
-    on: &Covered<'_>,
+    on: &BuildTarget<'_>,
     selected: Vec<BlockList>,
 ) -> Result<Planned, AllocError>
     requires lists { list_all (λ b. is_list on.now.joined.machine.now b.items) selected.items ≡ true }

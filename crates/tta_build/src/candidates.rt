@@ -3,21 +3,21 @@
 ghost use Rattle.std.specs.Prelude.{◌≡◌, true, IfOk, OnOk, IfSome};
 ghost use Rattle.tta_moves.specs.declared.items.BlockList.{BlockList};
 ghost use Rattle.tta_moves.specs.Slots.{is_list};
-ghost use Rattle.tta_optim.specs.Kept.{IsStandIn};
-ghost use Rattle.tta_compose.specs.Compiler.{optimised};
-ghost use Rattle.tta_build.specs.Trail.{IsTrail, AreTrailsOf, last_of};
+ghost use Rattle.tta_optim.specs.Kept.{IsEquivalent};
+ghost use Rattle.tta_compiler_laws.specs.Compiler.{optimised};
+ghost use Rattle.tta_build.specs.Derivation.{IsTrail, AreTrailsOf, last_of};
 ghost use Rattle.tta_build.specs.Placing.{AreChoices, IsBound};
 
 use crate::keeping::beside;
 use crate::pushing::{push_bound, push_served, push_some};
 use crate::rounds::Rounder;
-use crate::trail::{Rounds, Start, Trail};
+use crate::trail::{Derivation, Rounds, Start};
 use crate::ways::{IN_TURN, LAST_FIRST, PLAINLY};
 use std::alloc::{AllocError, Global};
 use tta_bind::{Dealing, bind};
-use tta_connect::Covered;
+use tta_connect::BuildTarget;
+use tta_loadelim::Reloads;
 use tta_moves::BlockList;
-use tta_reload::Reloads;
 
 /// Up to so many items an order by items is tried beside one by groups: it seldom gives the shorter
 /// list, and takes its time.
@@ -60,15 +60,15 @@ impl Candidates {
     pub fn plain(
         &mut self,
         alloc: Global,
-        on: &Covered<'_>,
+        on: &BuildTarget<'_>,
         b: &BlockList,
-    ) -> Result<Trail, AllocError>
+    ) -> Result<Derivation, AllocError>
         requires list { is_list on.now.joined.machine.now b.now.items ≡ true }
         ensures trail { IfOk result (λ t. IsTrail on.now.joined.machine.now b.now t) }
         ensures last { IfOk result (λ t. last_of t ≡ optimised on.now.joined.machine.now b.now) }
     {
         let first = self.rounder.plain(alloc, on, b)?;
-        Ok(Trail {
+        Ok(Derivation {
             start: Start {
                 served: None,
                 bound: None,
@@ -85,8 +85,8 @@ impl Candidates {
     fn add_own(
         &mut self,
         alloc: Global,
-        on: &Covered<'_>,
-        lists: &mut Vec<Trail>,
+        on: &BuildTarget<'_>,
+        lists: &mut Vec<Derivation>,
         b: &BlockList,
     ) -> Result<(), AllocError>
         requires list { is_list on.now.joined.machine.now b.now.items ≡ true }
@@ -111,12 +111,12 @@ impl Candidates {
     fn add_served(
         &mut self,
         alloc: Global,
-        on: &Covered<'_>,
-        lists: &mut Vec<Trail>,
+        on: &BuildTarget<'_>,
+        lists: &mut Vec<Derivation>,
         served: &BlockList,
     ) -> Result<(), AllocError>
         requires list { is_list on.now.joined.machine.now served.now.items ≡ true }
-        ensures { OnOk result ((b : BlockList) → IsStandIn on.now.joined.machine.now b served.now
+        ensures { OnOk result ((b : BlockList) → IsEquivalent on.now.joined.machine.now b served.now
             → AreTrailsOf on.now.joined.machine.now b lists.old.items
             → AreTrailsOf on.now.joined.machine.now b lists.new.items) }
     {
@@ -133,7 +133,7 @@ impl Candidates {
     fn choices(
         &mut self,
         alloc: Global,
-        on: &Covered<'_>,
+        on: &BuildTarget<'_>,
         list: &BlockList,
     ) -> Result<Choices, AllocError>
         requires list { is_list on.now.joined.machine.now list.now.items ≡ true }
@@ -150,7 +150,7 @@ impl Candidates {
     fn bound(
         &mut self,
         alloc: Global,
-        on: &Covered<'_>,
+        on: &BuildTarget<'_>,
         list: &BlockList,
     ) -> Result<Option<Bound>, AllocError>
         requires list { is_list on.now.joined.machine.now list.now.items ≡ true }
@@ -171,12 +171,12 @@ impl Candidates {
     fn of_served(
         &mut self,
         alloc: Global,
-        on: &Covered<'_>,
-        lists: &mut Vec<Trail>,
+        on: &BuildTarget<'_>,
+        lists: &mut Vec<Derivation>,
         served: BlockList,
     ) -> Result<(), AllocError>
         requires list { is_list on.now.joined.machine.now served.items ≡ true }
-        ensures { OnOk result ((b : BlockList) → IsStandIn on.now.joined.machine.now b served
+        ensures { OnOk result ((b : BlockList) → IsEquivalent on.now.joined.machine.now b served
             → AreTrailsOf on.now.joined.machine.now b lists.old.items
             → AreTrailsOf on.now.joined.machine.now b lists.new.items) }
     {
@@ -193,8 +193,8 @@ impl Candidates {
     fn add_bound(
         &mut self,
         alloc: Global,
-        on: &Covered<'_>,
-        lists: &mut Vec<Trail>,
+        on: &BuildTarget<'_>,
+        lists: &mut Vec<Derivation>,
         b: &BlockList,
         bound: Bound,
     ) -> Result<(), AllocError>
@@ -214,8 +214,8 @@ impl Candidates {
     fn add_first(
         &mut self,
         alloc: Global,
-        on: &Covered<'_>,
-        lists: &mut Vec<Trail>,
+        on: &BuildTarget<'_>,
+        lists: &mut Vec<Derivation>,
         b: &BlockList,
         bound: Option<Bound>,
     ) -> Result<(), AllocError>
@@ -234,8 +234,8 @@ impl Candidates {
     fn of_own(
         &mut self,
         alloc: Global,
-        on: &Covered<'_>,
-        lists: &mut Vec<Trail>,
+        on: &BuildTarget<'_>,
+        lists: &mut Vec<Derivation>,
         b: &BlockList,
     ) -> Result<(), AllocError>
         requires list { is_list on.now.joined.machine.now b.now.items ≡ true }
@@ -252,9 +252,9 @@ impl Candidates {
     pub fn from_last(
         &mut self,
         alloc: Global,
-        on: &Covered<'_>,
+        on: &BuildTarget<'_>,
         b: &BlockList,
-    ) -> Result<Vec<Trail>, AllocError>
+    ) -> Result<Vec<Derivation>, AllocError>
         requires list { is_list on.now.joined.machine.now b.now.items ≡ true }
         ensures { IfOk result (λ ts. AreTrailsOf on.now.joined.machine.now b.now ts.items) }
     {
@@ -271,9 +271,9 @@ impl Candidates {
     pub fn others(
         &mut self,
         alloc: Global,
-        on: &Covered<'_>,
+        on: &BuildTarget<'_>,
         b: &BlockList,
-    ) -> Result<Vec<Trail>, AllocError>
+    ) -> Result<Vec<Derivation>, AllocError>
         requires list { is_list on.now.joined.machine.now b.now.items ≡ true }
         ensures { IfOk result (λ ts. AreTrailsOf on.now.joined.machine.now b.now ts.items) }
     {

@@ -4,7 +4,7 @@ ghost use Rattle.std.specs.Prelude.{◌≡◌, false, None, IfOk, IfErr};
 ghost use Rattle.tta_ops.specs.Set.{stated};
 ghost use Rattle.tta_arch.specs.Over.{StandsOver};
 ghost use Rattle.tta_connect.specs.Coverage.{failed_rule};
-ghost use Rattle.tta_compose.specs.Direct.{is_direct};
+ghost use Rattle.tta_compiler_laws.specs.Direct.{is_direct};
 ghost use Rattle.tta_build.specs.Value.{gathered, IsAssembled, IsCompiled};
 ghost use Rattle.tta_build.specs.Parts.{IsCodeFor};
 ghost use Rattle.tta_build.specs.Statement.{HasCause};
@@ -18,7 +18,7 @@ use crate::register::{Analysed, Lowered, analyse};
 use crate::value::{Assembled, Compiled};
 use std::alloc::Global;
 use tta_code::Code;
-use tta_connect::{Choice, CoverError, Covered, Joined, cover};
+use tta_connect::{BuildTarget, Choice, CoverError, Joined, cover};
 use tta_ops::UnitSet;
 use tta_program::Program;
 
@@ -41,7 +41,7 @@ fn gathered(known: Analysed, homed: Homed, code: Code) -> Assembled
 /// What is made of a program for what is chosen on a machine.
 fn assembled(
     alloc: Global,
-    on: &Covered<'_>,
+    on: &BuildTarget<'_>,
     p: &Program,
     units: &UnitSet,
 ) -> Result<Assembled, BuildError>
@@ -89,7 +89,7 @@ pub fn compile_covered(
 {
     match cover(alloc, on.machine) {
         Ok(choice) => {
-            let covered = Covered {
+            let covered = BuildTarget {
                 joined: *on,
                 choice: &choice,
             };

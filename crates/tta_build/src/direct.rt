@@ -4,7 +4,7 @@ ghost use Rattle.std.specs.Prelude.{◌≡◌, true, IfOk, IfErr};
 ghost use Rattle.tta_ops.specs.Units.{Units};
 ghost use Rattle.tta_arch.specs.Rules.{IsMachine};
 ghost use Rattle.tta_program.specs.Rules.{IsProgram};
-ghost use Rattle.tta_compose.specs.Direct.{is_direct};
+ghost use Rattle.tta_compiler_laws.specs.Direct.{is_direct};
 ghost use Rattle.tta_build.specs.Lowered.{IsLoweredAs};
 ghost use Rattle.tta_build.specs.Value.{AreDirectLists, IsDirectlyCompiled};
 ghost use Rattle.tta_build.specs.Parts.{IsCodeFor};

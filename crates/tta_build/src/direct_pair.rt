@@ -7,8 +7,8 @@ ghost use Rattle.tta_program.specs.Direct.{only_constants};
 ghost use Rattle.tta_select.specs.Select.{trigger_at};
 ghost use Rattle.tta_select.specs.Direct.{out_of};
 ghost use Rattle.tta_select.specs.Direct.{brings};
-ghost use Rattle.tta_compose.specs.Direct.{constant_of, is_brought};
-ghost use Rattle.tta_compose.specs.Direct.{is_constant_or_halt, is_direct_proc, is_direct};
+ghost use Rattle.tta_compiler_laws.specs.Direct.{constant_of, is_brought};
+ghost use Rattle.tta_compiler_laws.specs.Direct.{is_constant_or_halt, is_direct_proc, is_direct};
 
 use tta_arch::{Dest, Machine, Op, Source};
 use tta_connect::{Joined, anywhere};

@@ -2,7 +2,7 @@
 //! in their order, and holds the steps between them: which needs of a program no unit offers, direct
 //! pairs, the candidates of each block and which of their placements stays, which of two ways of
 //! giving home registers stays, code from placements, and a program's data in order. What the
-//! passes prove together stands in `tta_compose`.
+//! passes prove together stands in `tta_compiler_laws`.
 #![tactic(auto)]
 
 mod best_candidate;
@@ -43,6 +43,6 @@ pub use needs::unoffered;
 pub use placed_program::{FEW_STEPS, is_small, total_length};
 pub use placing::place_all;
 pub use program::{Built, build, compile};
-pub use register::{Analysed, Lowered, Sharing, homes_by};
-pub use trail::{Order, Ordered, Round, Rounds, Start, Trail};
+pub use register::{Analysed, Lowered, RegisterOrder, homes_by};
+pub use trail::{Derivation, Order, Ordered, Round, Rounds, Start};
 pub use value::Compiled;

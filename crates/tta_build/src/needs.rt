@@ -3,8 +3,8 @@
 ghost use Rattle.std.specs.Prelude.{◌≡◌, true, false, IfNone, IfSome, slice_index};
 ghost use Rattle.tta_ops.specs.Set.{stated};
 ghost use Rattle.tta_arch.specs.Effects.{first_some};
-ghost use Rattle.tta_compose.specs.Needs.{need_of, is_served, are_offered};
-ghost use Rattle.tta_compose.specs.Needs.{first_failing, unoffered_in, first_unoffered};
+ghost use Rattle.tta_compiler_laws.specs.Needs.{need_of, is_served, are_offered};
+ghost use Rattle.tta_compiler_laws.specs.Needs.{first_failing, unoffered_in, first_unoffered};
 
 use tta_arch::{Machine, Op};
 use tta_connect::{Choice, offered};

@@ -8,23 +8,23 @@ ghost use Rattle.tta_arch.specs.Over.{StandsOver};
 ghost use Rattle.tta_link.specs.Blocks.{total_length};
 ghost use Rattle.tta_program.specs.Program.{step_count};
 ghost use Rattle.tta_lower.specs.Statement.{IsCause};
-ghost use Rattle.tta_compose.specs.Needs.{are_offered};
+ghost use Rattle.tta_compiler_laws.specs.Needs.{are_offered};
 ghost use Rattle.tta_alloc.specs.Allotted.{AreAllotted};
-ghost use Rattle.tta_build.specs.Sharing.{AreHomesBy};
+ghost use Rattle.tta_build.specs.RegisterOrder.{AreHomesBy};
 ghost use Rattle.tta_build.specs.Lowered.{IsAnalysed};
 ghost use Rattle.tta_build.specs.Value.{IsListedWith, IsHomedBest};
 
 use crate::best_candidate::{Planned, plan_lists};
 use crate::keeping::{beside, chosen};
-use crate::register::{Analysed, Sharing, analyse, are_alike, homes_by};
+use crate::register::{Analysed, RegisterOrder, analyse, are_alike, homes_by};
 use std::alloc::{AllocError, Global};
 use tta_alloc::Homes;
-use tta_connect::Covered;
+use tta_connect::BuildTarget;
+use tta_lir::Rir;
 use tta_lower::{LowerError, lower};
 use tta_moves::Placed;
 use tta_ops::UnitSet;
 use tta_program::{Proc, Program};
-use tta_rcode::Rir;
 use tta_select::select;
 
 /// Up to so many steps a program is tried with home registers given in either way. Which way gives
@@ -35,10 +35,10 @@ pub const FEW_STEPS: usize = 1024;
 /// there is no memory.
 fn homes_for(
     alloc: Global,
-    on: &Covered<'_>,
+    on: &BuildTarget<'_>,
     p: &Program,
     known: &Analysed,
-    sharing: Sharing,
+    sharing: RegisterOrder,
 ) -> Result<Homes, AllocError>
     requires known { IsAnalysed p.now known.now }
     ensures { IfOk result (λ h. AreHomesBy sharing p.now on.now.choice.now h) }
@@ -52,19 +52,19 @@ fn homes_for(
 /// from those in turn. It fails only where there is no memory.
 fn other_homes(
     alloc: Global,
-    on: &Covered<'_>,
+    on: &BuildTarget<'_>,
     p: &Program,
     known: &Analysed,
     turns: &Homes,
 ) -> Result<Option<Homes>, AllocError>
     requires known { IsAnalysed p.now known.now }
     ensures { IfOk result
-        (λ o. IfSome o (λ h. AreHomesBy Sharing.Least p.now on.now.choice.now h)) }
+        (λ o. IfSome o (λ h. AreHomesBy RegisterOrder.Least p.now on.now.choice.now h)) }
 {
     if !is_small(p) {
         return Ok(None);
     }
-    let least = homes_for(alloc, on, p, known, Sharing::Least)?;
+    let least = homes_for(alloc, on, p, known, RegisterOrder::Least)?;
     if are_alike(p, turns, &least) {
         return Ok(None);
     }
@@ -88,7 +88,7 @@ pub struct Homed {
 /// The lists of a program whose needs usable units offer, with these homes, and their placements.
 fn homed_with(
     alloc: Global,
-    on: &Covered<'_>,
+    on: &BuildTarget<'_>,
     p: &Program,
     units: &UnitSet,
     known: &Analysed,
@@ -167,7 +167,7 @@ fn shorter(first: Homed, other: Homed) -> Homed
 /// two that with fewer cycles stays.
 pub fn homed_best(
     alloc: Global,
-    on: &Covered<'_>,
+    on: &BuildTarget<'_>,
     p: &Program,
     units: &UnitSet,
     known: &Analysed,
@@ -182,7 +182,7 @@ pub fn homed_best(
 {
     on.joined.machine.rules();
     p.rules();
-    let turns = homes_for(alloc, on, p, known, Sharing::InTurn)?;
+    let turns = homes_for(alloc, on, p, known, RegisterOrder::LongestFree)?;
     let first = homed_with(alloc, on, p, units, known, turns)?;
     let least = other_homes(alloc, on, p, known, &first.homes);
     let (first, least) = beside(first, least)?;

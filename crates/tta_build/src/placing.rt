@@ -3,8 +3,8 @@
 ghost use Rattle.std.specs.Prelude.{◌≡◌, true, IfOk};
 ghost use Rattle.std.specs.List.{list_all};
 ghost use Rattle.tta_moves.specs.Slots.{is_list};
-ghost use Rattle.tta_compose.specs.Linking.{AreFirstFits};
-ghost use Rattle.tta_compose.specs.Room.{AreRoomy};
+ghost use Rattle.tta_compiler_laws.specs.Linking.{AreFirstFits};
+ghost use Rattle.tta_compiler_laws.specs.Room.{AreRoomy};
 
 use std::alloc::{AllocError, Global};
 use tta_connect::Joined;

@@ -3,13 +3,13 @@
 ghost use Rattle.std.specs.Prelude.{◌≡◌, IfOk, OnOk, IfSome, unwrap_or};
 ghost use Rattle.tta_arch.specs.Machine.{Machine};
 ghost use Rattle.tta_moves.specs.declared.items.BlockList.{BlockList};
-ghost use Rattle.tta_optim.specs.Kept.{IsStandIn};
-ghost use Rattle.tta_build.specs.Trail.{IsStart, start_of, AreRounds, AreTrailsOf};
+ghost use Rattle.tta_optim.specs.Kept.{IsEquivalent};
+ghost use Rattle.tta_build.specs.Derivation.{IsStart, start_of, AreRounds, AreTrailsOf};
 ghost use Rattle.tta_build.specs.Placing.{AreChoices, IsBound};
 
 use crate::candidates::{Bound, Choices};
 use crate::keeping::beside;
-use crate::trail::{Rounds, Start, Trail, copied};
+use crate::trail::{Derivation, Rounds, Start, copied};
 use std::alloc::{AllocError, Global};
 use tta_moves::BlockList;
 
@@ -36,17 +36,17 @@ fn copied_start(alloc: Global, start: &Start) -> Result<Start, AllocError>
 }
 
 /// One trail more, with these rounds from this start.
-pub fn push_one(lists: &mut Vec<Trail>, start: Start, rounds: Rounds) -> Result<(), AllocError>
+pub fn push_one(lists: &mut Vec<Derivation>, start: Start, rounds: Rounds) -> Result<(), AllocError>
     ensures { OnOk result ((m : Machine) (b : BlockList) → IsStart m b start
         → AreRounds m (start_of b start) rounds
         → AreTrailsOf m b lists.old.items → AreTrailsOf m b lists.new.items) }
 {
-    lists.push(Trail { start, rounds })?;
+    lists.push(Derivation { start, rounds })?;
     Ok(())
 }
 
 /// One trail more from the selected list, if there are rounds.
-pub fn push_some(lists: &mut Vec<Trail>, rounds: Option<Rounds>) -> Result<(), AllocError>
+pub fn push_some(lists: &mut Vec<Derivation>, rounds: Option<Rounds>) -> Result<(), AllocError>
     ensures { OnOk result ((m : Machine) (b : BlockList) → IfSome rounds (λ r. AreRounds m b r)
         → AreTrailsOf m b lists.old.items → AreTrailsOf m b lists.new.items) }
 {
@@ -66,11 +66,11 @@ pub fn push_some(lists: &mut Vec<Trail>, rounds: Option<Rounds>) -> Result<(), A
 /// One trail more from the selected list with its loads served, if there are rounds.
 pub fn push_served(
     alloc: Global,
-    lists: &mut Vec<Trail>,
+    lists: &mut Vec<Derivation>,
     served: &BlockList,
     rounds: Option<Rounds>,
 ) -> Result<(), AllocError>
-    ensures { OnOk result ((m : Machine) (b : BlockList) → IsStandIn m b served.now
+    ensures { OnOk result ((m : Machine) (b : BlockList) → IsEquivalent m b served.now
         → IfSome rounds (λ r. AreRounds m served.now r)
         → AreTrailsOf m b lists.old.items → AreTrailsOf m b lists.new.items) }
 {
@@ -92,7 +92,7 @@ pub fn push_served(
 /// Two trails more, with these rounds from one start.
 fn push_both(
     alloc: Global,
-    lists: &mut Vec<Trail>,
+    lists: &mut Vec<Derivation>,
     start: Start,
     first: Rounds,
     second: Rounds,
@@ -112,7 +112,7 @@ fn push_both(
 /// The trails of these rounds more, from one start.
 fn push_choices(
     alloc: Global,
-    lists: &mut Vec<Trail>,
+    lists: &mut Vec<Derivation>,
     start: Start,
     choices: Choices,
 ) -> Result<(), AllocError>
@@ -137,11 +137,11 @@ fn push_choices(
 /// loads are served, or else of the selected one.
 pub fn push_bound(
     alloc: Global,
-    lists: &mut Vec<Trail>,
+    lists: &mut Vec<Derivation>,
     served: Option<BlockList>,
     bound: Option<Bound>,
 ) -> Result<(), AllocError>
-    ensures { OnOk result ((m : Machine) (b : BlockList) → IfSome served (λ l. IsStandIn m b l)
+    ensures { OnOk result ((m : Machine) (b : BlockList) → IfSome served (λ l. IsEquivalent m b l)
         → IfSome bound (λ x. IsBound m (unwrap_or served b) x)
         → AreTrailsOf m b lists.old.items → AreTrailsOf m b lists.new.items) }
 {

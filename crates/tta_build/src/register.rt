@@ -6,20 +6,20 @@ ghost use Rattle.tta_flow.specs.Live.{IsLive};
 ghost use Rattle.tta_alloc.specs.Allotted.{AreAllotted};
 ghost use Rattle.tta_lower.specs.Statement.{IsCause};
 ghost use Rattle.tta_build.specs.Lowered.{IsAnalysed, IsLoweredAs};
-ghost use Rattle.tta_build.specs.Sharing.{AreGivenBy};
+ghost use Rattle.tta_build.specs.RegisterOrder.{AreGivenBy};
 
 use std::alloc::{AllocError, Global};
 use tta_alloc::{Home, Homes, assign, in_turn};
 use tta_flow::{Flow, Live};
+use tta_lir::Rir;
 use tta_lower::{LowerError, lower};
 use tta_program::Program;
-use tta_rcode::Rir;
 
 /// Which of the free home registers a variable is given.
 #[derive(Clone, Copy, Debug, PartialEq, Eq)]
-pub enum Sharing {
+pub enum RegisterOrder {
     /// The one that has been free longest, so that later work need not wait for old reads.
-    InTurn,
+    LongestFree,
     /// The least, as the linear scan gives it.
     Least,
 }
@@ -49,7 +49,7 @@ pub fn homes_by(
     flow: &Flow,
     live: &Live,
     homes: u32,
-    sharing: Sharing,
+    sharing: RegisterOrder,
 ) -> Result<Homes, AllocError>
     requires flow { IsFlow p.now flow.now.blocks }
     requires live { IsLive p.now live.now }
@@ -57,8 +57,8 @@ pub fn homes_by(
     ensures allotted { IfOk result (λ h. AreAllotted p.now homes h) }
 {
     match sharing {
-        Sharing::InTurn => in_turn(alloc, p, flow, live, homes),
-        Sharing::Least => assign(alloc, p, flow, live, homes),
+        RegisterOrder::LongestFree => in_turn(alloc, p, flow, live, homes),
+        RegisterOrder::Least => assign(alloc, p, flow, live, homes),
     }
 }
 
@@ -85,7 +85,14 @@ pub fn lowered_in_turn(
     ensures cause { IfErr result (λ e. IsCause p.now frame_words e) }
 {
     let known = analyse(alloc, p)?;
-    let kept = homes_by(alloc, p, &known.flow, &known.live, homes, Sharing::InTurn)?;
+    let kept = homes_by(
+        alloc,
+        p,
+        &known.flow,
+        &known.live,
+        homes,
+        RegisterOrder::LongestFree,
+    )?;
     let code = lower(alloc, p, &known.flow, &known.live, &kept, frame_words)?;
     Ok(Lowered {
         known,

@@ -3,29 +3,29 @@
 ghost use Rattle.std.specs.Prelude.{◌≡◌, true, IfOk, IfSome};
 ghost use Rattle.tta_moves.specs.declared.items.BlockList.{BlockList};
 ghost use Rattle.tta_moves.specs.Slots.{is_list};
-ghost use Rattle.tta_optim.specs.Kept.{IsStandIn};
-ghost use Rattle.tta_compose.specs.Compiler.{optimised};
-ghost use Rattle.tta_build.specs.Trail.{IsRound, AreRounds};
+ghost use Rattle.tta_optim.specs.Kept.{IsEquivalent};
+ghost use Rattle.tta_compiler_laws.specs.Compiler.{optimised};
+ghost use Rattle.tta_build.specs.Derivation.{IsRound, AreRounds};
 
 use crate::keeping::beside;
 use crate::trail::{Order, Ordered, Round, Rounds};
 use crate::ways::Way;
 use std::alloc::{AllocError, Global};
 use tta_bind::{Dealing, bind};
-use tta_connect::Covered;
+use tta_connect::BuildTarget;
 use tta_moves::BlockList;
 use tta_optim::Passes;
-use tta_order::{Orders, Rule, Ties};
+use tta_reorder::{Orders, Rule, Ties};
 
 /// A list with its operations on other units, if they are dealt out and any then stands elsewhere. It
 /// fails only where there is no memory.
 pub fn bound_by(
     alloc: Global,
-    on: &Covered<'_>,
+    on: &BuildTarget<'_>,
     list: &BlockList,
     dealing: Option<Dealing>,
 ) -> Result<Option<BlockList>, AllocError>
-    ensures { IfOk result (λ o. IfSome o (λ r. IsStandIn on.now.joined.machine.now list.now r)) }
+    ensures { IfOk result (λ o. IfSome o (λ r. IsEquivalent on.now.joined.machine.now list.now r)) }
 {
     match dealing {
         Some(by) => {
@@ -55,7 +55,7 @@ impl Rounder {
     pub fn plain(
         &mut self,
         alloc: Global,
-        on: &Covered<'_>,
+        on: &BuildTarget<'_>,
         list: &BlockList,
     ) -> Result<Round, AllocError>
         requires list { is_list on.now.joined.machine.now list.now.items ≡ true }
@@ -74,13 +74,13 @@ impl Rounder {
     fn in_order(
         &mut self,
         alloc: Global,
-        on: &Covered<'_>,
+        on: &BuildTarget<'_>,
         list: BlockList,
         by: Order,
     ) -> Result<Round, AllocError>
         requires list { is_list on.now.joined.machine.now list.items ≡ true }
         ensures { let M = on.now.joined.machine.now in
-            IfOk result (λ r. (b : BlockList) → IsStandIn M b list → IsRound M b r) }
+            IfOk result (λ r. (b : BlockList) → IsEquivalent M b list → IsRound M b r) }
     {
         let passed = self.passes.passed(alloc, &list, &on.joined)?;
         Ok(Round {
@@ -95,14 +95,14 @@ impl Rounder {
     fn on_units(
         &mut self,
         alloc: Global,
-        on: &Covered<'_>,
+        on: &BuildTarget<'_>,
         list: BlockList,
         bound: BlockList,
     ) -> Result<Round, AllocError>
-        requires stands { IsStandIn on.now.joined.machine.now list bound }
+        requires stands { IsEquivalent on.now.joined.machine.now list bound }
         requires list { is_list on.now.joined.machine.now bound.items ≡ true }
         ensures { let M = on.now.joined.machine.now in
-            IfOk result (λ r. (b : BlockList) → IsStandIn M b list → IsRound M b r) }
+            IfOk result (λ r. (b : BlockList) → IsEquivalent M b list → IsRound M b r) }
     {
         let passed = self.passes.passed(alloc, &bound, &on.joined)?;
         Ok(Round {
@@ -120,12 +120,12 @@ impl Rounder {
     pub fn as_bound(
         &mut self,
         alloc: Global,
-        on: &Covered<'_>,
+        on: &BuildTarget<'_>,
         bound: BlockList,
     ) -> Result<Round, AllocError>
         requires list { is_list on.now.joined.machine.now bound.items ≡ true }
         ensures { let M = on.now.joined.machine.now in
-            IfOk result (λ r. (b : BlockList) → IsStandIn M b bound → IsRound M b r) }
+            IfOk result (λ r. (b : BlockList) → IsEquivalent M b bound → IsRound M b r) }
     {
         let passed = self.passes.passed(alloc, &bound, &on.joined)?;
         Ok(Round {
@@ -140,13 +140,13 @@ impl Rounder {
     fn grouped(
         &mut self,
         alloc: Global,
-        on: &Covered<'_>,
+        on: &BuildTarget<'_>,
         list: BlockList,
         dealing: Option<Dealing>,
     ) -> Result<Round, AllocError>
         requires list { is_list on.now.joined.machine.now list.items ≡ true }
         ensures { let M = on.now.joined.machine.now in
-            IfOk result (λ r. (b : BlockList) → IsStandIn M b list → IsRound M b r) }
+            IfOk result (λ r. (b : BlockList) → IsEquivalent M b list → IsRound M b r) }
     {
         let bound = bound_by(alloc, on, &list, dealing);
         let (list, bound) = beside(list, bound)?;
@@ -161,7 +161,7 @@ impl Rounder {
     pub fn by_groups(
         &mut self,
         alloc: Global,
-        on: &Covered<'_>,
+        on: &BuildTarget<'_>,
         list: &BlockList,
         way: Way,
     ) -> Result<Option<Round>, AllocError>
@@ -182,7 +182,7 @@ impl Rounder {
     fn by_items(
         &mut self,
         alloc: Global,
-        on: &Covered<'_>,
+        on: &BuildTarget<'_>,
         list: &BlockList,
         ties: Ties,
     ) -> Result<Option<Round>, AllocError>
@@ -206,7 +206,7 @@ impl Rounder {
     pub fn with_items(
         &mut self,
         alloc: Global,
-        on: &Covered<'_>,
+        on: &BuildTarget<'_>,
         list: &BlockList,
         first: Round,
         ties: Ties,

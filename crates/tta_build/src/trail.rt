@@ -1,7 +1,7 @@
 //! How the list that is placed for a block came of the selected one.
 
 ghost use Rattle.std.specs.Prelude.{◌≡◌, IfOk};
-ghost use Rattle.tta_build.specs.Trail.{last_of, rounds_last, start_of};
+ghost use Rattle.tta_build.specs.Derivation.{last_of, rounds_last, start_of};
 
 use std::alloc::{AllocError, Global};
 use tta_list::Items;
@@ -71,12 +71,12 @@ pub struct Start {
 
 /// How the list of a block came of the selected one.
 #[derive(Drop)]
-pub struct Trail {
+pub struct Derivation {
     pub start: Start,
     pub rounds: Rounds,
 }
 
-impl Trail {
+impl Derivation {
     /// The list that is placed.
     pub fn last(&self) -> &BlockList
         ensures { result.now ≡ last_of self.now }

@@ -3,15 +3,15 @@
 ghost use Rattle.std.specs.Prelude.{◌≡◌, true, IfOk, IfSome};
 ghost use Rattle.tta_moves.specs.declared.items.BlockList.{BlockList};
 ghost use Rattle.tta_moves.specs.Slots.{is_list};
-ghost use Rattle.tta_build.specs.Trail.{IsRound, AreRounds};
+ghost use Rattle.tta_build.specs.Derivation.{IsRound, AreRounds};
 
 use crate::rounds::{Rounder, bound_by};
 use crate::trail::{Round, Rounds};
 use std::alloc::{AllocError, Global};
 use tta_bind::Dealing;
-use tta_connect::Covered;
+use tta_connect::BuildTarget;
 use tta_moves::BlockList;
-use tta_order::{Rule, Ties};
+use tta_reorder::{Rule, Ties};
 
 /// A way to put a list into another order: by groups, by which rule; how its operations are dealt out
 /// over units after that, if they are; and to which of those that are as good the order by items goes
@@ -60,7 +60,7 @@ impl Rounder {
     fn dealt(
         &mut self,
         alloc: Global,
-        on: &Covered<'_>,
+        on: &BuildTarget<'_>,
         list: &BlockList,
         dealing: Option<Dealing>,
     ) -> Result<Round, AllocError>
@@ -81,7 +81,7 @@ impl Rounder {
     fn first_of(
         &mut self,
         alloc: Global,
-        on: &Covered<'_>,
+        on: &BuildTarget<'_>,
         list: &BlockList,
         way: Way,
     ) -> Result<Round, AllocError>
@@ -99,7 +99,7 @@ impl Rounder {
     pub fn of_way(
         &mut self,
         alloc: Global,
-        on: &Covered<'_>,
+        on: &BuildTarget<'_>,
         list: &BlockList,
         most: usize,
         way: Way,
@@ -120,7 +120,7 @@ impl Rounder {
     pub fn of_groups(
         &mut self,
         alloc: Global,
-        on: &Covered<'_>,
+        on: &BuildTarget<'_>,
         list: &BlockList,
         most: usize,
         way: Way,
@@ -146,7 +146,7 @@ impl Rounder {
     pub fn of_items(
         &mut self,
         alloc: Global,
-        on: &Covered<'_>,
+        on: &BuildTarget<'_>,
         list: &BlockList,
         most: usize,
     ) -> Result<Option<Rounds>, AllocError>
@@ -173,7 +173,7 @@ impl Rounder {
     pub fn best(
         &mut self,
         alloc: Global,
-        on: &Covered<'_>,
+        on: &BuildTarget<'_>,
         list: &BlockList,
         most: usize,
         way: Way,

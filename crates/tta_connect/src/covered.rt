@@ -7,7 +7,7 @@ use crate::joined::Joined;
 
 /// A machine that keeps all rules of coverage, with its net and what is chosen on it.
 #[derive(Clone, Copy)]
-pub struct Covered<'a> {
+pub struct BuildTarget<'a> {
     pub joined: Joined<'a>,
     pub choice: &'a Choice,
     ghost choice_of: { IsChoice joined.machine.now choice.now },

@@ -19,7 +19,7 @@ mod way;
 
 pub use calls::{Call, anywhere, offered};
 pub use choice::{Choice, CoverError, cover};
-pub use covered::Covered;
+pub use covered::BuildTarget;
 pub use joined::Joined;
 pub use net::Net;
 pub use way::Way;

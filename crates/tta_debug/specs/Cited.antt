@@ -17,8 +17,8 @@ pub use Rattle.tta_ports.specs.Output.{IsCut, IsPut, IsQuiet, Output}
 pub use Rattle.tta_ports.specs.declared.error.Failed.{Failed}
 pub use Rattle.tta_report.specs.Replies.{due_text, reply_text}
 pub use Rattle.tta_report.specs.declared.reply.Reply.{Reply}
-pub use Rattle.tta_reading.specs.Lines.{Lexeme, Line, is_line_end, lexeme_of}
-pub use Rattle.tta_reading.specs.Words.{is_keyword, name_of, value_of}
+pub use Rattle.tta_parse.specs.Lines.{Lexeme, Line, is_line_end, lexeme_of}
+pub use Rattle.tta_parse.specs.Words.{is_keyword, name_of, value_of}
 pub use Rattle.tta_sim.specs.Held.{Held, IsRunOf, Stands}
 unfoldable pub use Rattle.tta_text.specs.Numbers.{digits_of, negative_of, number_of, value_below}
 pub use Rattle.tta_text.specs.Reading.{Reading}

@@ -1,5 +1,5 @@
 -- What the definitions and lemmas of this crate cite of other crates, passed on from one place. Declares nothing.
-pub use Rattle.tta_agree.specs.Agrees.{code_at, program_at}
+pub use Rattle.tta_refines.specs.Agrees.{code_at, program_at}
 pub use Rattle.tta_arch.specs.Machine.{Machine}
 unfoldable pub use Rattle.tta_asm.specs.Assembly.{assembled}
 pub use Rattle.tta_build.specs.Completes.{IsRoomy}
@@ -7,9 +7,9 @@ pub use Rattle.tta_build.specs.Converted.{HasCauseWith, LacksRoomWith}
 pub use Rattle.tta_build.specs.Statement.{HasCause, IsAccepted, IsBuilt, LacksRoom}
 pub use Rattle.tta_check.specs.Verdict.{IsUnsafe}
 pub use Rattle.tta_code.specs.Whole.{Whole, data_in}
-pub use Rattle.tta_cores.specs.Cluster.{cycles, first_states}
-pub use Rattle.tta_cores.specs.Network.{AreAtRest, Joined, Network, joined}
-pub use Rattle.tta_cores.specs.declared.cores.Core.{Core}
+pub use Rattle.tta_kahn.specs.Cluster.{cycles, first_states}
+pub use Rattle.tta_kahn.specs.Network.{AreAtRest, Joined, Network, joined}
+pub use Rattle.tta_kahn.specs.declared.cores.Core.{Core}
 pub use Rattle.tta_debug.specs.Debugged.{Debugged}
 pub use Rattle.tta_inspect.specs.Circuits.{IsCircuitText, ShowsCircuit}
 pub use Rattle.tta_inspect.specs.Command.{Ends, IsTold}
@@ -66,7 +66,7 @@ pub use Rattle.tta_program.specs.Rules.{Reaches}
 pub use Rattle.tta_program.specs.declared.program.DataLine.{DataLine}
 pub use Rattle.tta_program.specs.declared.program.Proc.{Proc}
 pub use Rattle.tta_prompt.specs.declared.error.PromptError.TheVariants.{LinesFailed, SinkFailed, TooLong}
-pub use Rattle.tta_reading.specs.Names.{named_in}
+pub use Rattle.tta_parse.specs.Names.{named_in}
 pub use Rattle.tta_sample.specs.Sample.{sample_text}
 pub use Rattle.tta_sim.specs.Held.{is_fault}
 pub use Rattle.tta_tac.specs.Text.{ByRecursion, InPasses, IsRefusedAt, Linked, ProgramText, WithoutMain, with_main}

@@ -7,7 +7,7 @@ use Rattle.std.proofs.lemmas.Bool.{and_parts, and_from, leb-true, le-leb, eqb-tr
 use Rattle.std.proofs.lemmas.List.{length-drop, length-take-le, drop-drop, take-append-drop, take_at}
 use Rattle.std.proofs.lemmas.Nat.{from_be_bytes-to_be_bytes_4, be_bytes_4}
 use Rattle.tta_image.specs.Cited.{refuse_if, Machine, word_width}
-use Rattle.tta_reading.proofs.Steps.{refuse_if-ok}
+use Rattle.tta_parse.proofs.Steps.{refuse_if-ok}
 use Rattle.tta_image.specs.declared.refusal.ImageError.{ImageError}
 use Rattle.tta_image.specs.declared.refusal.ImageRefusal.TheVariants.{Magic, Version, WrongMachine, Width, Length}
 use Rattle.tta_image.specs.Refusals.{of_all}

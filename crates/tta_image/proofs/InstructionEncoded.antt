@@ -4,7 +4,7 @@ use Rattle.std.specs.Option.{option_map_or}
 use Rattle.std.proofs.lemmas.Bool.{and_parts, ltb-true, lt-ltb, eqb-true, false_from_ne_true}
 use Rattle.std.proofs.lemmas.List.{append_assoc, length-drop, length-take-le, take_at, drop_at, take-append-drop, nil_from_length}
 use Rattle.tta_image.specs.Cited.{or_refuse, BusFields, Machine, has_bit, template_width, bus_width, taken_width, fields_of, layout_of, IsMachine, Move, Long, Instruction, is_long, is_legal}
-use Rattle.tta_reading.specs.Steps.{◌>>=◌}
+use Rattle.tta_parse.specs.Steps.{◌>>=◌}
 use Rattle.tta_arch.proofs.Widths.{width_for-enough}
 use Rattle.tta_image.specs.declared.refusal.ImageError.{ImageError}
 use Rattle.tta_image.specs.declared.refusal.ImageRefusal.TheVariants.{Field}

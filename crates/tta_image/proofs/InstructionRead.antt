@@ -1,7 +1,7 @@
 -- The instruction of a word, read field by field.
 use Rattle.std.proofs.Common.{◌≡◌, ℕ, Bool, List, length, drop, Option, Some, None, Result, Ok, Err, sym, ap, ◌∙◌}
 use Rattle.tta_image.specs.Cited.{or_refuse, Layout, Machine, Move, Long, Instruction}
-use Rattle.tta_reading.specs.Steps.{◌>>=◌}
+use Rattle.tta_parse.specs.Steps.{◌>>=◌}
 use Rattle.tta_image.specs.declared.refusal.ImageError.{ImageError}
 use Rattle.tta_image.specs.declared.refusal.ImageError.TheVariants.{Refused, NoMemory}
 use Rattle.tta_image.specs.declared.refusal.ImageRefusal.TheVariants.{Field}

@@ -4,8 +4,8 @@ use Rattle.std.proofs.Math.Seq.{take-add}
 use Rattle.std.proofs.lemmas.Bool.{and_parts, eqb-true, not-true, ltb-true}
 use Rattle.std.proofs.lemmas.Option.{none-some, same_Some}
 use Rattle.std.proofs.lemmas.List.{append_assoc, length-append, length-drop, length-take-le, drop-drop, take_at, drop_at, replicate-append-replicate}
-use Rattle.tta_reading.specs.Steps.{◌>>?◌}
-use Rattle.tta_reading.proofs.Steps.{then-some}
+use Rattle.tta_parse.specs.Steps.{◌>>?◌}
+use Rattle.tta_parse.proofs.Steps.{then-some}
 use Rattle.tta_image.specs.Cited.{Source, BusFields, Machine, short_width, guard_width, payload_width, dest_width, source_code, dest_code, fields_of, IsMachine, Move}
 use Rattle.tta_arch.specs.declared.ends.Source.TheVariants as source
 use Rattle.tta_image.specs.declared.slots.SlotNumbers.{SlotNumbers}

@@ -2,7 +2,7 @@
 use Rattle.std.proofs.Common.{◌≡◌, ℕ, ◌+◌, ◌%◌, ◌^◌, ◌<◌, ◌≤◌, ◌==◌, Bool, true, false, List, ◌∷◌, ◌++◌, length, Option, Some, None, option_map, refl, ap, ◌∙◌, arith}
 use Rattle.std.proofs.lemmas.Bool.{false_from_ne_true, eqb-true, lt-ltb}
 use Rattle.std.proofs.lemmas.Nat.{mod_below, pow_pos}
-use Rattle.tta_reading.specs.Steps.{◌>>?◌}
+use Rattle.tta_parse.specs.Steps.{◌>>?◌}
 use Rattle.tta_image.specs.Cited.{GuardRef, Source, Dest, Machine, is_source_on, width_for, guards_on, sources_on, dests_on, short_width, guard_width, payload_width, dest_width, guard_code, source_code, dest_code, fields_of, IsMachine, Move}
 use Rattle.tta_arch.specs.declared.ends.Source.TheVariants as source
 use Rattle.tta_arch.proofs.Widths.{width_for-enough, pow_le}

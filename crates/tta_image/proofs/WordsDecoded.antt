@@ -4,8 +4,8 @@ use Rattle.std.specs.List.{flat_map, list_any, AllByRecursion}
 use Rattle.std.proofs.lemmas.Bool.{not-false}
 use Rattle.std.proofs.lemmas.List.{append_assoc, length-drop, drop_at, take-append-drop}
 use Rattle.tta_image.specs.Cited.{refuse_if, Machine, word_width, layout_of, IsMachine, Instruction, is_legal}
-use Rattle.tta_reading.specs.Steps.{◌>>=◌}
-use Rattle.tta_reading.proofs.Steps.{same_ok, refuse_if-ok, then-ok}
+use Rattle.tta_parse.specs.Steps.{◌>>=◌}
+use Rattle.tta_parse.proofs.Steps.{same_ok, refuse_if-ok, then-ok}
 use Rattle.tta_image.specs.declared.refusal.ImageError.{ImageError}
 use Rattle.tta_image.specs.declared.refusal.ImageRefusal.TheVariants.{Illegal, Padding}
 use Rattle.tta_image.specs.Refusals.{of_all, of_word}

@@ -27,4 +27,4 @@ pub use Rattle.tta_code.specs.declared.code.Instruction.{Instruction}
 pub use Rattle.tta_code.specs.declared.code.Long.{Long}
 pub use Rattle.tta_code.specs.declared.code.Move.{Move}
 pub use Rattle.tta_code.specs.declared.whole.Datum.{Datum}
-pub use Rattle.tta_reading.specs.Steps.{or_refuse, refuse_if}
+pub use Rattle.tta_parse.specs.Steps.{or_refuse, refuse_if}

@@ -3,7 +3,7 @@ use Rattle.std.specs.Prelude.{ℕ, ◌+◌, ◌-◌, ◌*◌, ◌^◌, ◌==◌,
 use Rattle.std.specs.Option.{option_map_or}
 use Rattle.std.specs.List.{flat_map, position_or_len}
 use Rattle.tta_image.specs.Cited.{or_refuse, GuardRef, Source, Dest, BusFields, Layout, Machine, has_bit, numbers, Move, Long, Instruction}
-use Rattle.tta_reading.specs.Steps.{◌>>=◌, ◌>>?◌}
+use Rattle.tta_parse.specs.Steps.{◌>>=◌, ◌>>?◌}
 use Rattle.tta_arch.specs.declared.ends.Source.TheVariants as source
 use Rattle.tta_image.specs.declared.refusal.ImageError.{ImageError}
 use Rattle.tta_image.specs.declared.refusal.ImageRefusal.TheVariants.{Field}

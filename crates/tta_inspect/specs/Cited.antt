@@ -7,7 +7,7 @@ pub use Rattle.tta_code.specs.Cycle.{State, start}
 pub use Rattle.tta_code.specs.Legal.{IsLegalCode, IsLegalWhole}
 pub use Rattle.tta_code.specs.Whole.{Whole, data_in, laid_by}
 pub use Rattle.tta_code.specs.declared.whole.Datum.{Datum}
-pub use Rattle.tta_cores.specs.declared.cores.Core.{Core}
+pub use Rattle.tta_kahn.specs.declared.cores.Core.{Core}
 unfoldable pub use Rattle.tta_cost.specs.CostText.{cost_text}
 pub use Rattle.tta_debug.specs.Debugged.{Debugged}
 pub use Rattle.tta_debug.specs.Sessions.{Session'}

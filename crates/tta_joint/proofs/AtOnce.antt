@@ -4,9 +4,9 @@ use Rattle.std.specs.Prelude.{slice_get, if◌then◌else◌}
 use Rattle.std.proofs.lemmas.Bool.{and_parts, cases_eq, eq-eqb, ne_eqb, not-true, false≢true, or_right}
 use Rattle.std.proofs.lemmas.List.{drop-append-le}
 use Rattle.tta_list.specs.Prefix.{IsPrefixOf}
-use Rattle.tta_cores.specs.Network.{Network, Joined, fed_to, after_step, stepped, turn, interleaved}
-use Rattle.tta_cores.specs.Queues.{UsesQueues}
-use Rattle.tta_cores.proofs.Clusters.{fed_grows, next_core, turn_none, turn_here, turn_other, turn_grows}
+use Rattle.tta_kahn.specs.Network.{Network, Joined, fed_to, after_step, stepped, turn, interleaved}
+use Rattle.tta_kahn.specs.Queues.{UsesQueues}
+use Rattle.tta_kahn.proofs.Clusters.{fed_grows, next_core, turn_none, turn_here, turn_other, turn_grows}
 use Rattle.tta_joint.specs.Joint.{is_among, stand_once, StepAtOnce}
 use Rattle.tta_joint.specs.Laws.{IsShown, ClocksInterleave}
 

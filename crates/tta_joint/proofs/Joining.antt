@@ -13,8 +13,8 @@ use Rattle.tta_queue.proofs.Clocking.{queue_clocks}
 use Rattle.tta_queue.proofs.Running.{waited, first_word, none_inside}
 use Rattle.tta_list.specs.Prefix.{IsPrefixOf}
 use Rattle.tta_list.proofs.Prefixes.{prefix_same, prefix_chain}
-use Rattle.tta_cores.specs.Network.{Network, Joined, output_of, feeder_of, fed_to, stepped, turn, interleaved, joined}
-use Rattle.tta_cores.specs.Queues.{UsesQueues}
+use Rattle.tta_kahn.specs.Network.{Network, Joined, output_of, feeder_of, fed_to, stepped, turn, interleaved, joined}
+use Rattle.tta_kahn.specs.Queues.{UsesQueues}
 use Rattle.tta_joint.specs.Joint.{is_among, seen, new_words, CoresClock, where_came, HaveCome, come_with, steps_by, waiting_for}
 use Rattle.tta_joint.specs.Laws.{IsShown, IsQueued, AreQueued, JointClock, come_by, HaveJoined, JointRuns}
 use Rattle.tta_joint.proofs.AtOnce.{interleave, stepped_goes}

@@ -4,7 +4,7 @@ use Rattle.tta_circuit.specs.Meaning.{is_set}
 use Rattle.tta_queue.specs.Queue.{Pin, InData, OutValid, OutData}
 use Rattle.tta_queue.specs.Laws.{takes, gives}
 use Rattle.tta_list.specs.Prefix.{IsPrefixOf}
-use Rattle.tta_cores.specs.Network.{Network, Joined, output_of, feeder_of, fed_to, after_step, stepped}
+use Rattle.tta_kahn.specs.Network.{Network, Joined, output_of, feeder_of, fed_to, after_step, stepped}
 
 -- ---- which cores step
 

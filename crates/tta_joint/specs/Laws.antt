@@ -4,8 +4,8 @@ use Rattle.tta_ops.specs.Units.{Units}
 use Rattle.tta_circuit.specs.Meaning.{Held, is_set, settled, clocked}
 use Rattle.tta_queue.specs.Queue.{Pin, IsReset, Store, same_pin, same_store, queue_of}
 use Rattle.tta_queue.specs.Laws.{HasInside, queue, pins, taken, BeginUpTo}
-use Rattle.tta_cores.specs.Network.{Network, Joined, joined, fed_to, output_of, after_step, interleaved}
-use Rattle.tta_cores.specs.Queues.{UsesQueues}
+use Rattle.tta_kahn.specs.Network.{Network, Joined, joined, fed_to, output_of, after_step, interleaved}
+use Rattle.tta_kahn.specs.Queues.{UsesQueues}
 use Rattle.tta_joint.specs.Joint.{is_among, stand_once, StepAtOnce, CoresClock, where_came, HaveCome, come_with, steps_by, waiting_for}
 
 -- ---- one clock

@@ -12,7 +12,7 @@ use Rattle.tta_lower.specs.Members.{In}
 use Rattle.tta_lower.specs.Tables.{HasNumbers, number_in}
 use Rattle.tta_lower.specs.Laid.{block_by, stays_after, test_of}
 use Rattle.tta_lower.specs.Layout.{vars_of, source, exit_for, code_from}
-use Rattle.tta_rcode.specs.declared.code.Exit.TheVariants as exit
+use Rattle.tta_lir.specs.declared.code.Exit.TheVariants as exit
 use Rattle.tta_lower.proofs.Steps.{step_of}
 use Rattle.tta_lower.proofs.Callers.{called}
 use Rattle.tta_lower.proofs.Placed.{span-there, proc-there}

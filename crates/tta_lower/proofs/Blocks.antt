@@ -3,7 +3,7 @@ use Rattle.std.proofs.Common.{◌≡◌, ◌≤◌, ◌+◌, ◌-◌, ◌++◌, 
 use Rattle.tta_lower.specs.Cited.{Units, Step, Program, IsProgram, Running, Waiting, step_at, RBlock, Rir, Kept, steps_of, walk}
 use Rattle.tta_program.specs.Sequential as program
 use Rattle.tta_program.specs.Sequential.{Frame}
-use Rattle.tta_rcode.specs.Meaning.{State}
+use Rattle.tta_lir.specs.Meaning.{State}
 use Rattle.tta_lower.specs.Liveness.{Known, Block, Has, IsFlow, IsHomes}
 use Rattle.tta_lower.specs.Layout.{vars_of, steps_for, code_from}
 use Rattle.tta_lower.specs.Shape.{Counts, BlockFor, IsLowered}

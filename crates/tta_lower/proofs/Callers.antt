@@ -9,7 +9,7 @@ use Rattle.tta_program.specs.declared.operand.Src.TheVariants.{Word}
 use Rattle.tta_program.specs.declared.step.Step.TheVariants.{Copy, Apply, Put, If, Goto, Invoke, Return, Halt}
 use Rattle.tta_program.specs.Rules as rules
 use Rattle.tta_program.specs.Sequential.{Frame}
-use Rattle.tta_rcode.specs.Meaning.{Return}
+use Rattle.tta_lir.specs.Meaning.{Return}
 use Rattle.tta_lower.specs.Liveness.{LiveBefore, Reads, Leads, LiveAfter, After, Block, is_var, reads}
 use Rattle.tta_lower.specs.Layout.{vars_of, var_slot, back_slot, own, InFrame}
 use Rattle.tta_lower.specs.Relation.{IsCaller, KeepsBack, Callers, UntouchedFrame}

@@ -6,14 +6,14 @@ use Rattle.std.proofs.lemmas.List.Sums.{sum_by-cons, sum_by-append}
 use Rattle.tta_lower.specs.Cited.{Units, Src, Var, Step, Load, Take, Store, When, End, Program, Place, RSrc, RBlock, names_place, names_src, names_exit, names, Need, asks_rstep, asks_exit, asks, assigns_place, assigns_rstep, assigns_block}
 use Rattle.tta_program.specs.declared.operand.Src.TheVariants.{Word}
 use Rattle.tta_program.specs.declared.step.Step.TheVariants.{Copy, Apply, Put, If, Goto, Invoke, Return, Halt}
-use Rattle.tta_rcode.specs.declared.code.Place.TheVariants.{Reg, Frame}
-use Rattle.tta_rcode.specs.declared.code.RSrc.TheVariants as rsrc
-use Rattle.tta_rcode.specs.declared.code.RStep.TheVariants as rstep
+use Rattle.tta_lir.specs.declared.code.Place.TheVariants.{Reg, Frame}
+use Rattle.tta_lir.specs.declared.code.RSrc.TheVariants as rsrc
+use Rattle.tta_lir.specs.declared.code.RStep.TheVariants as rstep
 use Rattle.tta_lower.specs.Liveness.{Known, Has, Homes, IsFlow}
 use Rattle.tta_lower.specs.Layout
 use Rattle.tta_lower.specs.Layout.{vars_of, params_of, place, place_by, source, passes, gives, steps_for, exit_for, keeps_ra, first_value, sets, sets_from}
 use Rattle.tta_lower.specs.Lower.{Part, Entry, Steps, Returned, number_of, entry_number, block_of}
-use Rattle.tta_rcode.specs.Counts.{names_step}
+use Rattle.tta_lir.specs.Counts.{names_step}
 use Rattle.tta_lower.specs.Counts.{in_slot, slot_src, leaving, traffic_step, over_live, fetched, traffic, asks_step, asks_part, assigns_step, assigns_part}
 use Rattle.tta_lower.proofs.StepSums.{block-sum, entry-sum}
 

@@ -9,12 +9,12 @@ use Rattle.tta_program.specs.declared.step.Step.TheVariants.{Invoke}
 use Rattle.tta_program.specs.Rules as rules
 use Rattle.tta_program.specs.Sequential as program
 use Rattle.tta_program.specs.Sequential.{Frame, returns}
-use Rattle.tta_rcode.specs.declared.code.Place.TheVariants as places
-use Rattle.tta_rcode.specs.declared.code.RSrc.TheVariants as rsrc
-use Rattle.tta_rcode.specs.declared.code.RStep.TheVariants as rstep
-use Rattle.tta_rcode.specs.declared.code.Exit.TheVariants as exit
-use Rattle.tta_rcode.specs.Meaning as code
-use Rattle.tta_rcode.specs.Meaning.{State, Return as ReturnTo}
+use Rattle.tta_lir.specs.declared.code.Place.TheVariants as places
+use Rattle.tta_lir.specs.declared.code.RSrc.TheVariants as rsrc
+use Rattle.tta_lir.specs.declared.code.RStep.TheVariants as rstep
+use Rattle.tta_lir.specs.declared.code.Exit.TheVariants as exit
+use Rattle.tta_lir.specs.Meaning as code
+use Rattle.tta_lir.specs.Meaning.{State, Return as ReturnTo}
 use Rattle.tta_lower.specs.Liveness.{Known, LiveBefore, LiveAfter, After, Reached, IsFlow, IsHomes}
 use Rattle.tta_lower.specs.Layout.{vars_of, params_of, var_slot, value_slot, back_slot, place, place_by, keeps_ra, sets_from}
 use Rattle.tta_lower.specs.Shape.{Counts, StartsAt, ReturnFor, IsLowered, is_call, is_kept}

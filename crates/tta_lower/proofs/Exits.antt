@@ -2,8 +2,8 @@
 use Rattle.std.proofs.Common.{◌≡◌, ◌+◌, ◌++◌, ◌∷◌, [], ℕ, zero, suc, List, Option, Some, true, false, refl, sym, ap, ◌∙◌, arith, add-zero, append_assoc}
 use Rattle.std.specs.Option.{option_map_or}
 use Rattle.tta_lower.specs.Cited.{Units, Rel, Step, Program, Running, Halted, Waiting, step_at, holds, RSrc, RBlock, Next, Back, Kept, found, operand, steps_of, walk, stay}
-use Rattle.tta_rcode.specs.declared.code.Exit.TheVariants.{Goto, If, Invoke, Halt}
-use Rattle.tta_rcode.specs.Meaning.{State, Return}
+use Rattle.tta_lir.specs.declared.code.Exit.TheVariants.{Goto, If, Invoke, Halt}
+use Rattle.tta_lir.specs.Meaning.{State, Return}
 use Rattle.tta_lower.specs.Liveness.{Homes}
 use Rattle.tta_lower.specs.Layout.{steps_for, code_from}
 use Rattle.tta_lower.specs.Relation.{going}

@@ -3,7 +3,7 @@ use Rattle.std.proofs.Common.{◌≡◌, ◌+◌, ◌==◌, ℕ, true, false, re
 use Rattle.std.proofs.lemmas.Bool.{eq-eqb, or_right}
 use Rattle.tta_lower.specs.Cited.{Step, Load, Take, Store, When, Program, plain}
 use Rattle.tta_program.specs.declared.step.Step.TheVariants.{Copy, Apply, Put, If}
-use Rattle.tta_rcode.specs.declared.code.Exit.TheVariants as exit
+use Rattle.tta_lir.specs.declared.code.Exit.TheVariants as exit
 use Rattle.tta_lower.specs.Liveness.{Homes, is_plain, leads}
 use Rattle.tta_lower.specs.Layout.{exit_for}
 use Rattle.tta_lower.specs.Shape.{may_fall, is_call}

@@ -10,7 +10,7 @@ use Rattle.std.proofs.lemmas.Option.{slice_get-map, slice_get_within}
 use Rattle.tta_list.proofs.Lists.{slice_get-back, some_within}
 use Rattle.tta_lower.specs.Cited.{Step, Load, Take, Store, When, End, Proc, Program, IsProgram, step_at, RBlock, frame_need, block_passes, is_not_slot, wants_next}
 use Rattle.tta_program.specs.declared.step.Step.TheVariants.{Copy, Apply, Put, If, Goto, Invoke, Return, Halt}
-use Rattle.tta_rcode.specs.declared.code.Exit.TheVariants as exit
+use Rattle.tta_lir.specs.declared.code.Exit.TheVariants as exit
 use Rattle.tta_lower.specs.Liveness.{Known, Block, Has, IsFlow, leads}
 use Rattle.tta_lower.specs.Layout.{vars_of, own, base, var_slot, value_slot, back_slot, size, place, place_by, exit_for}
 use Rattle.tta_lower.specs.Lower.{numbers, code_order, spans_of, Part, Steps, return_after, span_parts, entry_parts, proc_parts, parts, number_of, entry_number, block_of, EndsBefore, InOrder, Answers}

@@ -8,9 +8,9 @@ use Rattle.tta_lower.specs.Cited.{Units, Src, Rel, Step, Load, Take, Store, When
 use Rattle.tta_program.specs.declared.step.Step.TheVariants.{Copy, Apply, Put, If, Goto, Invoke, Return, Halt}
 use Rattle.tta_program.specs.Sequential as program
 use Rattle.tta_program.specs.Sequential.{Frame, returns}
-use Rattle.tta_rcode.specs.declared.code.RSrc.TheVariants as rsrc
-use Rattle.tta_rcode.specs.Meaning as code
-use Rattle.tta_rcode.specs.Meaning.{State}
+use Rattle.tta_lir.specs.declared.code.RSrc.TheVariants as rsrc
+use Rattle.tta_lir.specs.Meaning as code
+use Rattle.tta_lir.specs.Meaning.{State}
 use Rattle.tta_lower.specs.Liveness.{Known, Reads, After, Reached, Block, Has, IsFlow, IsHomes, is_plain, is_var, reads, assigned, leads}
 use Rattle.tta_lower.specs.Layout.{vars_of, params_of, var_slot, place_by, source, gives, steps_for, exit_for, InFrame, back as back_exit}
 use Rattle.tta_lower.specs.Shape.{Counts, BlockFor, IsLowered, may_fall, is_call}

@@ -3,7 +3,7 @@ use Rattle.std.proofs.Common.{◌≡◌, ◌≢◌, ◌==◌, ◌∷◌, [], ℕ
 use Rattle.std.specs.List.{list_any}
 use Rattle.std.proofs.lemmas.Bool.{eq-eqb, ne_eqb, eqb-true}
 use Rattle.tta_lower.specs.Cited.{Place, Kept, Plain, found, plain, word, put_reg, put_slot, stay}
-use Rattle.tta_rcode.specs.declared.code.Place.TheVariants.{Reg, Frame}
+use Rattle.tta_lir.specs.declared.code.Place.TheVariants.{Reg, Frame}
 
 -- what was found first
 pub found-same : {A : Type 0} (k : ℕ) (v : A) (es : List (ℕ × A)) → found k ((k, v) ∷ es) ≡ Some v

@@ -6,8 +6,8 @@ use Rattle.std.proofs.lemmas.List.{drop_all, drop_more}
 use Rattle.tta_lower.specs.Cited.{Var, Step, End, Proc, DataLine, step_at, only_constants, puts, alone, one_block}
 use Rattle.tta_program.specs.declared.operand.Src.TheVariants.{Word}
 use Rattle.tta_program.specs.declared.step.Step.TheVariants.{Put, Halt}
-use Rattle.tta_rcode.specs.declared.code.RSrc.TheVariants as rsrc
-use Rattle.tta_rcode.specs.declared.code.RStep.TheVariants as rstep
+use Rattle.tta_lir.specs.declared.code.RSrc.TheVariants as rsrc
+use Rattle.tta_lir.specs.declared.code.RStep.TheVariants as rstep
 use Rattle.tta_lower.specs.Liveness.{Known, Block, Has, Homes, Reached, First, Then, LiveBefore, Reads, Leads, LiveAfter, After, reads, leads, is_plain}
 use Rattle.tta_lower.specs.Layout.{steps_for, code_from}
 use Rattle.tta_lower.specs.Lower.{numbers, is_home_of, homes_of, lowered, Answers}

@@ -5,9 +5,9 @@ use Rattle.std.proofs.lemmas.Bool.{eq-eqb, or_left, or_right}
 use Rattle.tta_lower.specs.Cited.{Units, Src, Var, Program, Running, Place, RSrc, RStep, Kept, Plain, found, plain, word, put_reg, put_slot, step, steps_of}
 use Rattle.tta_program.specs.declared.operand.Src.TheVariants.{Word}
 use Rattle.tta_program.specs.Sequential as program
-use Rattle.tta_rcode.specs.declared.code.Place.TheVariants as places
-use Rattle.tta_rcode.specs.declared.code.RStep.TheVariants as rstep
-use Rattle.tta_rcode.specs.Meaning as code
+use Rattle.tta_lir.specs.declared.code.Place.TheVariants as places
+use Rattle.tta_lir.specs.declared.code.RStep.TheVariants as rstep
+use Rattle.tta_lir.specs.Meaning as code
 use Rattle.tta_lower.specs.Liveness.{Homes, is_var}
 use Rattle.tta_lower.specs.Layout.{vars_of, var_slot, place, place_by, source, passes}
 use Rattle.tta_lower.specs.Relation.{going}

@@ -6,7 +6,7 @@ use Rattle.tta_program.specs.declared.operand.Src.TheVariants.{Word}
 use Rattle.tta_program.specs.declared.step.Step.TheVariants.{Copy, Apply, Put}
 use Rattle.tta_program.specs.Sequential as program
 use Rattle.tta_program.specs.Sequential.{Frame}
-use Rattle.tta_rcode.specs.Meaning as code
+use Rattle.tta_lir.specs.Meaning as code
 use Rattle.tta_lower.specs.Liveness.{LiveBefore, Reads, Leads, LiveAfter, After, Reached, ByAssigned, ByAfter, Homes, IsHomes, is_plain, is_var, reads, assigned}
 use Rattle.tta_lower.specs.Layout.{vars_of, var_slot, place, place_by, source, steps_for}
 use Rattle.tta_lower.specs.Relation.{running, going, HeldBefore, HeldAfter, Untouched}

@@ -9,8 +9,8 @@ use Rattle.tta_program.specs.declared.step.Step.TheVariants.{Invoke}
 use Rattle.tta_program.specs.Rules as rules
 use Rattle.tta_program.specs.Sequential as program
 use Rattle.tta_program.specs.Sequential.{Frame, returns}
-use Rattle.tta_rcode.specs.Meaning as code
-use Rattle.tta_rcode.specs.Meaning.{State}
+use Rattle.tta_lir.specs.Meaning as code
+use Rattle.tta_lir.specs.Meaning.{State}
 use Rattle.tta_lower.specs.Liveness.{Known, LiveAfter, After, Reached, Block, Has, IsFlow, IsHomes}
 use Rattle.tta_lower.specs.Layout.{value_slot, back_slot, place_by, gives, back as back_exit}
 use Rattle.tta_lower.specs.Shape.{Counts, BlockFor, IsLowered}

@@ -5,8 +5,8 @@ use Rattle.std.specs.List.{list_all}
 use Rattle.std.proofs.lemmas.Bool.{and_parts}
 use Rattle.std.proofs.lemmas.List.{drop_more}
 use Rattle.tta_lower.specs.Cited.{Src, is_src, Step, Proc, step_at, Program, RStep}
-use Rattle.tta_rcode.specs.declared.code.Place.TheVariants as places
-use Rattle.tta_rcode.specs.declared.code.RStep.TheVariants as rstep
+use Rattle.tta_lir.specs.declared.code.Place.TheVariants as places
+use Rattle.tta_lir.specs.declared.code.RStep.TheVariants as rstep
 use Rattle.tta_lower.specs.Liveness.{Homes}
 use Rattle.tta_lower.specs.Layout.{var_slot, source, passes, steps_for, code_from, sets, sets_from}
 

@@ -2,11 +2,11 @@
 use Rattle.std.proofs.Common.{◌≡◌, ◌==◌, ◌&&◌, ◌||◌, ℕ, Bool, List, [], ◌∷◌, Option, Some, None, refl}
 use Rattle.std.specs.Prelude.{if◌then◌else◌}
 use Rattle.tta_lower.specs.Cited.{Units, Halted, At, SaveRa, Next, Back, Rir, rrun}
-use Rattle.tta_rcode.specs.declared.code.Place.TheVariants.{Reg, Frame}
-use Rattle.tta_rcode.specs.declared.code.RSrc.TheVariants.{Word}
-use Rattle.tta_rcode.specs.declared.code.RStep.TheVariants.{Copy, Apply, Put}
-use Rattle.tta_rcode.specs.declared.code.Exit.TheVariants.{Invoke, Halt}
-use Rattle.tta_rcode.specs.Meaning as code
+use Rattle.tta_lir.specs.declared.code.Place.TheVariants.{Reg, Frame}
+use Rattle.tta_lir.specs.declared.code.RSrc.TheVariants.{Word}
+use Rattle.tta_lir.specs.declared.code.RStep.TheVariants.{Copy, Apply, Put}
+use Rattle.tta_lir.specs.declared.code.Exit.TheVariants.{Invoke, Halt}
+use Rattle.tta_lir.specs.Meaning as code
 use Rattle.tta_lower.specs.Squares.{squares}
 use Rattle.tta_lower.specs.Layout.{base}
 use Rattle.tta_lower.specs.Liveness.{Known, Block}

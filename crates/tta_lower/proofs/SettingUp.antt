@@ -3,8 +3,8 @@ use Rattle.std.proofs.Common.{◌≡◌, ◌≢◌, ◌<◌, ◌≤◌, ◌+◌,
 use Rattle.std.specs.Prelude.{if◌then◌else◌, is_none}
 use Rattle.std.proofs.lemmas.Bool.{and_parts, cases_eq, ltb-true}
 use Rattle.tta_lower.specs.Cited.{Units, Program, Running, RStep, Kept, Plain, put_reg, put_slot, found, plain, word, steps_of, Place}
-use Rattle.tta_rcode.specs.declared.code.Place.TheVariants as places
-use Rattle.tta_rcode.specs.Meaning as code
+use Rattle.tta_lir.specs.declared.code.Place.TheVariants as places
+use Rattle.tta_lir.specs.Meaning as code
 use Rattle.tta_lower.specs.Liveness.{LiveBefore, Homes, IsHomes}
 use Rattle.tta_lower.specs.Layout.{vars_of, params_of, var_slot, place, place_by, first_value, sets, sets_from}
 use Rattle.tta_lower.specs.Relation.{going, Untouched}

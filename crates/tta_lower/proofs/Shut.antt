@@ -9,10 +9,10 @@ use Rattle.std.proofs.lemmas.Option.{slice_get_within}
 use Rattle.tta_list.proofs.Lists.{all_one}
 use Rattle.tta_lower.specs.Cited.{Units, Src, Step, Load, Take, Store, When, End, Proc, Program, step_count, IsProgram, IsProc, step_at, RBlock, frame_need, block_passes, is_place, leads_within, is_closed_block, IsClosed, rrun}
 use Rattle.tta_program.specs.declared.step.Step.TheVariants.{Copy, Apply, Put, If, Goto, Invoke, Return, Halt}
-use Rattle.tta_rcode.specs.declared.code.Place.TheVariants.{Frame}
-use Rattle.tta_rcode.specs.declared.code.Exit.TheVariants as exit
-use Rattle.tta_rcode.specs.declared.code.RStep.TheVariants as rstep
-use Rattle.tta_rcode.specs.declared.code.RSrc.TheVariants as rsrc
+use Rattle.tta_lir.specs.declared.code.Place.TheVariants.{Frame}
+use Rattle.tta_lir.specs.declared.code.Exit.TheVariants as exit
+use Rattle.tta_lir.specs.declared.code.RStep.TheVariants as rstep
+use Rattle.tta_lir.specs.declared.code.RSrc.TheVariants as rsrc
 use Rattle.tta_lower.specs.Liveness.{Known, Block, Has, IsFlow, leads}
 use Rattle.tta_lower.specs.Layout
 use Rattle.tta_lower.specs.Layout.{vars_of, params_of, base, var_slot, value_slot, back_slot, place, place_by, exit_for, keeps_ra, sets_from, steps_for, code_from}

@@ -9,7 +9,7 @@ use Rattle.std.proofs.lemmas.Option.{slice_get_within}
 use Rattle.tta_lower.specs.Cited.{Src, Step, Proc, Program, IsProgram, is_src, step_at, Place, RBlock, frame_need, step_passes, block_passes}
 use Rattle.tta_program.specs.declared.step.Step.TheVariants.{Invoke}
 use Rattle.tta_program.specs.Rules
-use Rattle.tta_rcode.specs.declared.code.Place.TheVariants.{Frame}
+use Rattle.tta_lir.specs.declared.code.Place.TheVariants.{Frame}
 use Rattle.tta_lower.specs.Liveness.{Known, Block, Has, IsFlow}
 use Rattle.tta_lower.specs.Layout.{vars_of, base, slots_before, var_slot, value_slot, back_slot, size, place, keeps_ra, sets_from, code_from}
 use Rattle.tta_lower.specs.Lower.{numbers, code_order, spans_of, Part, Entry, Steps, Returned, return_after, span_parts, has_entry, entry_parts, proc_parts, parts, number_of, entry_number, block_of, lowered, Answers}

@@ -5,7 +5,7 @@ use Rattle.tta_lower.specs.Liveness.{Reached, Touches, Homes, IsHomes}
 use Rattle.tta_lower.specs.Layout.{var_slot, place, place_by}
 use Rattle.std.specs.Option.{option_map_or}
 use Rattle.tta_list.proofs.Lists.{list_all_one, all_one}
-use Rattle.tta_rcode.specs.declared.code.Place.TheVariants as places
+use Rattle.tta_lir.specs.declared.code.Place.TheVariants as places
 
 -- the procedure of a step, and the rules that the step keeps
 pub record StepOf (p : Program) (owner : ℕ) (st : Step) : Type 0 where

@@ -3,7 +3,7 @@ use Rattle.std.proofs.Common.{◌≡◌, ◌<◌, ◌≤◌, ◌+◌, ◌∷◌,
 use Rattle.tta_lower.specs.Cited.{iterate, Units, Program, step_count, Outcome, Running, next, RBlock, Rir, Kept, walk, is_running}
 use Rattle.tta_program.specs.Sequential as program
 use Rattle.tta_program.specs.Sequential.{Frame}
-use Rattle.tta_rcode.specs.Meaning.{State}
+use Rattle.tta_lir.specs.Meaning.{State}
 use Rattle.tta_lower.specs.Liveness.{Known}
 use Rattle.tta_lower.specs.Shape.{Counts}
 use Rattle.tta_lower.specs.Relation.{running, going, AtBlock, Stands}

@@ -8,9 +8,9 @@ use Rattle.std.proofs.lemmas.List.Sums.{sum_by-cons, sum_by-append}
 use Rattle.tta_list.proofs.Lists.{slice_get-back, some_within, sum_by-map as sum-mapped, length_ones as length-sum}
 use Rattle.tta_lower.specs.Cited.{Src, Step, Load, Take, Store, When, End, Proc, Program, step_count, IsProgram, step_at, RSrc, RBlock, weight_step, weight_exit, weight_block, weight, args_in, arg_count, var_count}
 use Rattle.tta_program.specs.declared.step.Step.TheVariants.{Copy, Apply, Put, If, Goto, Invoke, Return, Halt}
-use Rattle.tta_rcode.specs.declared.code.RSrc.TheVariants as rsrc
-use Rattle.tta_rcode.specs.declared.code.RStep.TheVariants as rstep
-use Rattle.tta_rcode.specs.declared.code.Place.TheVariants.{Frame}
+use Rattle.tta_lir.specs.declared.code.RSrc.TheVariants as rsrc
+use Rattle.tta_lir.specs.declared.code.RStep.TheVariants as rstep
+use Rattle.tta_lir.specs.declared.code.Place.TheVariants.{Frame}
 use Rattle.tta_lower.specs.Liveness.{Known, Block, Has, Homes, IsFlow}
 use Rattle.tta_lower.specs.Layout
 use Rattle.tta_lower.specs.Layout.{vars_of, params_of, place, source, passes, gives, steps_for, exit_for, keeps_ra, first_value, sets, sets_from}

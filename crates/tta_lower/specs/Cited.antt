@@ -27,17 +27,17 @@ pub use Rattle.tta_program.specs.declared.program.DataLine.{DataLine}
 pub use Rattle.tta_program.specs.declared.program.Proc.{Proc}
 pub use Rattle.tta_program.specs.declared.step.Step.{Step}
 pub use Rattle.tta_program.specs.declared.step.Step.TheVariants.{End, Load, Store, Take, When}
-pub use Rattle.tta_rcode.specs.Closed.{IsClosed, block_passes, exit_passes, is_closed_block, is_not_slot, is_place, leads_within, src_passes, step_passes, wants_next}
-pub use Rattle.tta_rcode.specs.Counts.{Loads, Need, Puts, Stores, Takes, asks, asks_exit, asks_rstep, assigns_block, assigns_place, assigns_rstep, counts_need, counts_test, names, names_exit, names_place, names_src, weight, weight_block, weight_exit, weight_step}
-pub use Rattle.tta_rcode.specs.Direct.{one_block}
-pub use Rattle.tta_rcode.specs.Meaning.{Kept, Plain, found, is_running, operand, plain, put_reg, put_slot, rrun, stay, steps_of, walk, word}
-unfoldable pub use Rattle.tta_rcode.specs.Meaning.{leg, step}
-pub use Rattle.tta_rcode.specs.declared.code.Exit.{Exit}
-pub use Rattle.tta_rcode.specs.declared.code.Exit.TheVariants.{Back, Next}
-pub use Rattle.tta_rcode.specs.declared.code.Place.{Place}
-pub use Rattle.tta_rcode.specs.declared.code.RBlock.{RBlock}
-pub use Rattle.tta_rcode.specs.declared.code.RSrc.{RSrc}
-pub use Rattle.tta_rcode.specs.declared.code.RSrc.TheVariants.{At}
-pub use Rattle.tta_rcode.specs.declared.code.RStep.{RStep}
-pub use Rattle.tta_rcode.specs.declared.code.RStep.TheVariants.{SaveRa}
-pub use Rattle.tta_rcode.specs.declared.code.Rir.{Rir}
+pub use Rattle.tta_lir.specs.Closed.{IsClosed, block_passes, exit_passes, is_closed_block, is_not_slot, is_place, leads_within, src_passes, step_passes, wants_next}
+pub use Rattle.tta_lir.specs.Counts.{Loads, Need, Puts, Stores, Takes, asks, asks_exit, asks_rstep, assigns_block, assigns_place, assigns_rstep, counts_need, counts_test, names, names_exit, names_place, names_src, weight, weight_block, weight_exit, weight_step}
+pub use Rattle.tta_lir.specs.Direct.{one_block}
+pub use Rattle.tta_lir.specs.Meaning.{Kept, Plain, found, is_running, operand, plain, put_reg, put_slot, rrun, stay, steps_of, walk, word}
+unfoldable pub use Rattle.tta_lir.specs.Meaning.{leg, step}
+pub use Rattle.tta_lir.specs.declared.code.Exit.{Exit}
+pub use Rattle.tta_lir.specs.declared.code.Exit.TheVariants.{Back, Next}
+pub use Rattle.tta_lir.specs.declared.code.Place.{Place}
+pub use Rattle.tta_lir.specs.declared.code.RBlock.{RBlock}
+pub use Rattle.tta_lir.specs.declared.code.RSrc.{RSrc}
+pub use Rattle.tta_lir.specs.declared.code.RSrc.TheVariants.{At}
+pub use Rattle.tta_lir.specs.declared.code.RStep.{RStep}
+pub use Rattle.tta_lir.specs.declared.code.RStep.TheVariants.{SaveRa}
+pub use Rattle.tta_lir.specs.declared.code.Rir.{Rir}

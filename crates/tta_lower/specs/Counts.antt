@@ -5,7 +5,7 @@ use Rattle.std.specs.List.{sum_by}
 use Rattle.tta_lower.specs.Cited.{Units, Src, Var, Step, Load, Take, Store, When, End, Program, step_at, Need, Loads, Stores, Puts, Takes, counts_need, counts_test}
 use Rattle.tta_program.specs.declared.operand.Src.TheVariants.{Word}
 use Rattle.tta_program.specs.declared.step.Step.TheVariants.{Copy, Apply, Put, If, Goto, Invoke, Return, Halt}
-use Rattle.tta_rcode.specs.Counts.{Named}
+use Rattle.tta_lir.specs.Counts.{Named}
 use Rattle.tta_lower.specs.Liveness.{Homes}
 use Rattle.tta_lower.specs.Layout.{params_of, vars_of}
 use Rattle.tta_lower.specs.Lower.{Part, Entry, Steps, Returned}

@@ -2,7 +2,7 @@
 use Rattle.std.specs.Prelude.{◌≡◌, ℕ, ◌+◌, ◌*◌, true, false, List}
 use Rattle.tta_lower.specs.Cited.{IsPrefixOf, Units, Program, step_count, seq, Rir, is_running, rrun}
 use Rattle.tta_program.specs.Sequential as program
-use Rattle.tta_rcode.specs.Meaning.{State}
+use Rattle.tta_lir.specs.Meaning.{State}
 
 -- two runs have the same outcome, data, output and rest of the input
 pub record EndAlike (s : program.State) (t : State) : Type 0 where

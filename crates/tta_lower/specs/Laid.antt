@@ -6,10 +6,10 @@ use Rattle.tta_lower.specs.Liveness.{Homes, Block}
 use Rattle.tta_lower.specs.Lower.{numbers, Part, Entry, Steps, Returned}
 use Rattle.tta_lower.specs.Cited.{Step, step_at, RBlock, Proc, Program}
 use Rattle.tta_program.specs.declared.step.Step.TheVariants.{Invoke}
-use Rattle.tta_rcode.specs.declared.code.Place.TheVariants.{Frame}
-use Rattle.tta_rcode.specs.declared.code.RSrc.TheVariants as rsrc
-use Rattle.tta_rcode.specs.declared.code.RStep.TheVariants as rstep
-use Rattle.tta_rcode.specs.declared.code.Exit.TheVariants as exit
+use Rattle.tta_lir.specs.declared.code.Place.TheVariants.{Frame}
+use Rattle.tta_lir.specs.declared.code.RSrc.TheVariants as rsrc
+use Rattle.tta_lir.specs.declared.code.RStep.TheVariants as rstep
+use Rattle.tta_lir.specs.declared.code.Exit.TheVariants as exit
 use Rattle.tta_lower.specs.Layout.{vars_of, base, own, value_slot, place, code_from, exit_for, keeps_ra, sets_from}
 
 -- the frames of the first procedures are laid, and the next slot is free

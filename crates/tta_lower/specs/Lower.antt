@@ -4,10 +4,10 @@ use Rattle.std.specs.Option.{option_map_or}
 use Rattle.std.specs.List.{flat_map, list_any}
 use Rattle.tta_lower.specs.Cited.{Step, Program, step_at, RBlock, Rir}
 use Rattle.tta_program.specs.declared.step.Step.TheVariants.{Invoke}
-use Rattle.tta_rcode.specs.declared.code.Place.TheVariants.{Frame}
-use Rattle.tta_rcode.specs.declared.code.RSrc.TheVariants as rsrc
-use Rattle.tta_rcode.specs.declared.code.RStep.TheVariants as rstep
-use Rattle.tta_rcode.specs.declared.code.Exit.TheVariants as exit
+use Rattle.tta_lir.specs.declared.code.Place.TheVariants.{Frame}
+use Rattle.tta_lir.specs.declared.code.RSrc.TheVariants as rsrc
+use Rattle.tta_lir.specs.declared.code.RStep.TheVariants as rstep
+use Rattle.tta_lir.specs.declared.code.Exit.TheVariants as exit
 use Rattle.tta_lower.specs.Liveness.{Block, Has, Known, LiveBefore, LiveAfter}
 pub use Rattle.tta_lower.specs.declared.part.Part.{Part}
 pub use Rattle.tta_lower.specs.declared.part.Part.TheVariants.{Entry, Steps, Returned}

@@ -4,7 +4,7 @@ use Rattle.tta_lower.specs.Cited.{Src, Proc, Program, Outcome, step_at, Rir, Kep
 use Rattle.tta_program.specs.declared.step.Step.TheVariants.{Invoke}
 use Rattle.tta_program.specs.Sequential as program
 use Rattle.tta_program.specs.Sequential.{Frame}
-use Rattle.tta_rcode.specs.Meaning.{State, Return}
+use Rattle.tta_lir.specs.Meaning.{State, Return}
 use Rattle.tta_lower.specs.Liveness.{Known, LiveBefore, LiveAfter, Block, Has, Homes}
 use Rattle.tta_lower.specs.Layout.{vars_of, params_of, back_slot, value_slot, var_slot, InFrame, place}
 use Rattle.tta_lower.specs.Shape.{Counts, EntryFor}

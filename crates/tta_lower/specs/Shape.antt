@@ -3,10 +3,10 @@ use Rattle.std.specs.Prelude.{◌≡◌, ℕ, ◌+◌, ◌-◌, ◌≤◌, ◌==
 use Rattle.std.specs.List.{list_any}
 use Rattle.tta_lower.specs.Cited.{Src, Step, Proc, Program, step_count, step_at, RBlock, Rir}
 use Rattle.tta_program.specs.declared.step.Step.TheVariants.{If, Invoke}
-use Rattle.tta_rcode.specs.declared.code.Place.TheVariants.{Frame}
-use Rattle.tta_rcode.specs.declared.code.RSrc.TheVariants as rsrc
-use Rattle.tta_rcode.specs.declared.code.RStep.TheVariants as rstep
-use Rattle.tta_rcode.specs.declared.code.Exit.TheVariants as exit
+use Rattle.tta_lir.specs.declared.code.Place.TheVariants.{Frame}
+use Rattle.tta_lir.specs.declared.code.RSrc.TheVariants as rsrc
+use Rattle.tta_lir.specs.declared.code.RStep.TheVariants as rstep
+use Rattle.tta_lir.specs.declared.code.Exit.TheVariants as exit
 use Rattle.tta_lower.specs.Liveness.{Known, LiveBefore, LiveAfter, Block, Has, is_plain}
 use Rattle.tta_lower.specs.Layout.{place, code_from, exit_for, keeps_ra, sets_from, value_slot, vars_of}
 

@@ -8,8 +8,8 @@ ghost use Rattle.tta_lower.specs.Layout.{exit_for};
 
 use crate::numbers::{Numbers, number};
 use crate::plan::{Plan, back_slot, source_of};
+use tta_lir::Exit;
 use tta_program::Step;
-use tta_rcode::Exit;
 
 /// How a block with a last step ends.
 pub fn exit_of(plan: &Plan<'_>, numbers: &Numbers, owner: u32, step: &Step) -> Exit

@@ -8,7 +8,7 @@ ghost use Rattle.tta_lower.specs.Layout.{vars_of, params_of, sets, sets_from};
 use crate::part::Part;
 use crate::plan::{Plan, home, is_live, params_in, place_of, slot_of, vars_in};
 use std::alloc::AllocError;
-use tta_rcode::{Place, RSrc, RStep};
+use tta_lir::{Place, RSrc, RStep};
 
 /// What sets a variable at an entry; a parameter that has its slot is there already.
 pub fn set_variable(

@@ -22,4 +22,4 @@ pub use part::Part;
 pub use parts::all_parts;
 pub use register_code::lower;
 /// The types of the register code that `lower` makes.
-pub use tta_rcode::{Exit, Place, RBlock, RSrc, RStep, Rir};
+pub use tta_lir::{Exit, Place, RBlock, RSrc, RStep, Rir};

@@ -20,9 +20,9 @@ use crate::plan::{Plan, back_slot, place_of, value_slot};
 use crate::row::{lower_steps, step_there};
 use std::alloc::{AllocError, Global};
 use tta_flow::Block;
+use tta_lir::{Exit, Place, RBlock, RSrc, RStep};
 use tta_list::Items;
 use tta_program::Step;
-use tta_rcode::{Exit, Place, RBlock, RSrc, RStep};
 
 /// The return address is kept, but in main.
 fn keep_ra(into: &mut Vec<RStep>, plan: &Plan<'_>, owner: u32) -> Result<(), AllocError>

@@ -11,8 +11,8 @@ ghost use Rattle.tta_lower.specs.Layout.{vars_of, params_of, place, source, var_
 use crate::part::Part;
 use tta_alloc::{Home, Homes};
 use tta_flow::Live;
+use tta_lir::{Place, RSrc};
 use tta_program::{Program, Src};
-use tta_rcode::{Place, RSrc};
 
 /// A program with what is known of it: its homes, which of its variables are live where, and for
 /// each procedure the slot of its first variable, as its frames are laid.

@@ -20,9 +20,9 @@ use crate::plan::Plan;
 use std::alloc::{AllocError, Global};
 use tta_alloc::Homes;
 use tta_flow::{Block, Flow, Live};
+use tta_lir::Rir;
 use tta_list::Items;
 use tta_program::Program;
-use tta_rcode::Rir;
 
 /// The register code of a program, by its blocks, the liveness and the homes of its variables, for
 /// so many words of the frame space. `FrameFull` comes exactly where the frames need more words.

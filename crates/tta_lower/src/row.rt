@@ -14,8 +14,8 @@ ghost use Rattle.tta_lower.specs.Layout.{vars_of, place, source, passes, gives, 
 use crate::plan::{Plan, place_of, slot_of, source_of, value_slot};
 use std::alloc::AllocError;
 use tta_flow::Block;
+use tta_lir::{Place, RSrc, RStep};
 use tta_program::{Program, Src, Step};
-use tta_rcode::{Place, RSrc, RStep};
 
 /// What a step becomes that only goes on.
 pub fn plain_step(plan: &Plan<'_>, owner: u32, step: &Step) -> Option<RStep>

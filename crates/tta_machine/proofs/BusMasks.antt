@@ -7,7 +7,7 @@ use Rattle.std.proofs.lemmas.List.Folds.{list_any-append}
 use Rattle.std.proofs.lemmas.Bool.{and_parts, not-true, eqb-true, eqb-false}
 use Rattle.std.proofs.lemmas.Nat.{or_disjoint, and_or_self, and_or_apart, pow_apart, pow_pos}
 use Rattle.std.proofs.lemmas.List.{map-append, map_more, drop_more, take-append-drop}
-use Rattle.tta_reading.specs.Steps.{◌>>?◌}
+use Rattle.tta_parse.specs.Steps.{◌>>?◌}
 use Rattle.tta_machine.specs.Cited.{texts, Word, are_different}
 use Rattle.tta_machine.specs.declared.draft.Draft.{Draft}
 use Rattle.tta_machine.specs.Draft.{bus_named}

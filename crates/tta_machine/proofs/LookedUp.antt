@@ -5,7 +5,7 @@ use Rattle.std.specs.Option.{option_map_or}
 use Rattle.std.specs.List.{AllByRecursion}
 use Rattle.std.proofs.lemmas.Option.{cond_some}
 use Rattle.tta_machine.specs.Cited.{named_in, or_refuse, is_socket, is_port_socket}
-use Rattle.tta_reading.proofs.Steps.{same_ok, then-some}
+use Rattle.tta_parse.proofs.Steps.{same_ok, then-some}
 use Rattle.tta_machine.specs.declared.refusal.Refusal.TheVariants.{Unknown}
 use Rattle.tta_machine.specs.declared.draft.Named.{Named}
 use Rattle.tta_machine.specs.declared.draft.Named.TheVariants as place

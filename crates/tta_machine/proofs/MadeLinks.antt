@@ -6,7 +6,7 @@ use Rattle.std.specs.Option.{option_map_or}
 use Rattle.std.specs.List.{list_any}
 use Rattle.std.proofs.lemmas.Bool.{or_parts, not-false, ltb-false}
 use Rattle.tta_machine.specs.Cited.{refuse_if, Units, File, ImmUnit, UnitOp, Op, Guard, Template, Control, has_result, is_from_to, are_different, same_op, same_guard}
-use Rattle.tta_reading.proofs.Steps.{then-ok, some-ok, refuse_if-ok, same_ok}
+use Rattle.tta_parse.proofs.Steps.{then-ok, some-ok, refuse_if-ok, same_ok}
 use Rattle.tta_machine.specs.declared.refusal.Refusal.TheVariants.{Unknown, Twice, Range, Missing}
 use Rattle.tta_machine.specs.declared.draft.Named.TheVariants as place
 use Rattle.tta_machine.specs.declared.draft.Draft.{Draft}

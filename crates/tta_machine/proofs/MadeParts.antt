@@ -3,7 +3,7 @@
 use Rattle.std.proofs.Common.{◌≡◌, ◌++◌, ◌∷◌, []}
 use Rattle.std.specs.Prelude.{ℕ, Bool, true, false, not, ◌||◌, ◌==◌, nat_le, List, length, Option, Some, Ok}
 use Rattle.std.proofs.lemmas.Bool.{or_parts, not-false}
-use Rattle.tta_reading.proofs.Steps.{then-ok, some-ok, refuse_if-ok, same_ok}
+use Rattle.tta_parse.proofs.Steps.{then-ok, some-ok, refuse_if-ok, same_ok}
 use Rattle.tta_machine.specs.declared.refusal.Refusal.TheVariants.{Unknown, Twice, Range}
 use Rattle.tta_machine.specs.declared.draft.Named.TheVariants as place
 use Rattle.tta_machine.specs.declared.draft.Draft.{Draft}

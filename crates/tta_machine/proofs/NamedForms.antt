@@ -3,10 +3,10 @@ use Rattle.std.proofs.Common.{◌≡◌, ℕ, Bool, true, false, List, [], ◌�
 use Rattle.std.specs.Prelude.{codes, if◌then◌else◌}
 use Rattle.std.specs.List.{AllByRecursion, cons_option}
 use Rattle.tta_machine.specs.Cited.{is_name, Line, is_keyword, is_mark, name_of, value_of, only_if}
-use Rattle.tta_reading.specs.Steps.{◌>>?◌}
+use Rattle.tta_parse.specs.Steps.{◌>>?◌}
 use Rattle.tta_machine.specs.Forms.{BusForm, SocketForm, FileForm, ImmForm, UnitForm, OpForm, TemplateForm, bus_form, socket_form, file_form, imm_form, unit_form, unit_ports, op_form, template_form, one_of_two, keyed_value, keyed_name, names_alone}
 use Rattle.tta_machine.specs.Grammar.{declared_as, op_lines}
-use Rattle.tta_reading.proofs.TextNames.{LineNames}
+use Rattle.tta_parse.proofs.TextNames.{LineNames}
 
 -- ---- values that are there
 

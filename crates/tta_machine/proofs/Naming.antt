@@ -7,7 +7,7 @@ use Rattle.std.proofs.lemmas.Slice.Eq.{bytes_eq-Decides}
 use Rattle.tta_list.proofs.Lists.{slice_get-push, slice_get-changed}
 use Rattle.tta_list.proofs.Tests.{none_from_is_some}
 use Rattle.tta_machine.specs.Cited.{is_name, Declared, named_in, IsMachineName}
-use Rattle.tta_reading.proofs.Found.{named_in-new}
+use Rattle.tta_parse.proofs.Found.{named_in-new}
 use Rattle.tta_machine.specs.declared.draft.Named.{Named}
 use Rattle.tta_machine.specs.declared.draft.Named.TheVariants as place
 use Rattle.tta_machine.specs.declared.draft.Draft.{Draft}

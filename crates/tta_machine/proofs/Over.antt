@@ -7,7 +7,7 @@ use Rattle.std.specs.List.{AllByRecursion}
 use Rattle.std.proofs.lemmas.Option.{slice_get_within, slice_get-get_or}
 use Rattle.tta_list.proofs.Lists.{all_one}
 use Rattle.tta_machine.specs.Cited.{lines_of, Units, named, OpId, Op, Ldw, Stw, Ldf, Stf, Out, Take, Set, UnitOp, Machine, op_at, StandsOver, is_named}
-use Rattle.tta_reading.proofs.TextNames.{LineNames, text_names}
+use Rattle.tta_parse.proofs.TextNames.{LineNames, text_names}
 use Rattle.tta_ops.proofs.Named.{named_get}
 use Rattle.tta_arch.specs.declared.parts.Unit.{Unit as OpUnit}
 use Rattle.tta_machine.specs.Declarations.{op_named, timed_op, untimed_op, arity_of}

@@ -4,7 +4,7 @@ use Rattle.std.specs.Prelude.{Option, Some, None, map, codes}
 use Rattle.std.proofs.lemmas.Bool.{true≢false}
 use Rattle.std.proofs.lemmas.List.{take_rest}
 use Rattle.tta_machine.specs.Cited.{Name, Word, Lexeme, plain, is_mark, name_of, value_of, only_if}
-use Rattle.tta_reading.specs.Steps.{◌>>?◌}
+use Rattle.tta_parse.specs.Steps.{◌>>?◌}
 use Rattle.tta_machine.specs.Forms.{FileForm, file_form, file_sockets, template_form, keyed_value, names_alone}
 
 -- what stands after the end of a line

@@ -8,7 +8,7 @@ use Rattle.std.proofs.lemmas.List.Folds.{list_any_at}
 use Rattle.std.proofs.lemmas.Option.{slice_get_within, get_or_from_slice_get}
 use Rattle.std.proofs.lemmas.Slice.Eq.{bytes_eq-Decides}
 use Rattle.tta_machine.specs.Cited.{named_in, or_refuse, are_different}
-use Rattle.tta_reading.proofs.Steps.{same_ok, then-some}
+use Rattle.tta_parse.proofs.Steps.{same_ok, then-some}
 use Rattle.tta_machine.specs.declared.refusal.Refusal.TheVariants.{Unknown}
 use Rattle.tta_machine.specs.declared.draft.Named.{Named}
 use Rattle.tta_machine.specs.declared.draft.Named.TheVariants as place

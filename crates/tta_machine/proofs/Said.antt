@@ -4,8 +4,8 @@ use Rattle.std.specs.Prelude.{unwrap_or}
 use Rattle.std.specs.List.{list_all, AllByRecursion}
 use Rattle.std.specs.Str.{bytes_eq}
 use Rattle.tta_machine.specs.Cited.{Line, Lexeme, lines_of, is_keyword, at_line, Units, Control, Machine, IsMachine}
-use Rattle.tta_reading.proofs.Steps.{same_ok, then-ok, at_line-ok}
-use Rattle.tta_reading.proofs.TextNames.{LineNames, text_names}
+use Rattle.tta_parse.proofs.Steps.{same_ok, then-ok, at_line-ok}
+use Rattle.tta_parse.proofs.TextNames.{LineNames, text_names}
 use Rattle.tta_machine.specs.declared.draft.Draft.{Draft}
 use Rattle.tta_machine.specs.Draft.{nothing, machine_of}
 use Rattle.tta_machine.specs.Forms.{bus_form, socket_form, file_form, imm_form, unit_form, op_form, guard_form, template_form, control_form, space_form}

@@ -5,8 +5,8 @@ use Rattle.std.specs.Option.{option_map_or}
 use Rattle.std.specs.List.{AllByRecursion}
 use Rattle.std.proofs.lemmas.Bool.{ltb-true, ltb-false}
 use Rattle.tta_machine.specs.Cited.{Line, Lexeme, name_of, value_of, is_mark, at_line, Units, Template, Control, Machine, taken_width, IsMachine, is_control}
-use Rattle.tta_reading.proofs.Steps.{same_ok, then-some, only_if-some, then-ok, at_line-ok}
-use Rattle.tta_reading.proofs.TextNames.{LineNames}
+use Rattle.tta_parse.proofs.Steps.{same_ok, then-some, only_if-some, then-ok, at_line-ok}
+use Rattle.tta_parse.proofs.TextNames.{LineNames}
 use Rattle.tta_machine.specs.declared.refusal.Refusal.TheVariants.{Missing, TooNarrow}
 use Rattle.tta_machine.specs.declared.draft.Draft.{Draft}
 use Rattle.tta_machine.specs.Draft.{nothing, machine_of}

@@ -1,7 +1,7 @@
 -- Taking the lines of a text one by one.
 use Rattle.std.proofs.Common.{◌≡◌, ℕ, ◌+◌, List, ◌∷◌, Result, Ok, Err, IfOk, IfErr, refl, ap, ◌∙◌}
 use Rattle.tta_machine.specs.Cited.{Line, lines_of, Units, Machine, StandsOver}
-use Rattle.tta_reading.specs.Steps.{◌>>=◌}
+use Rattle.tta_parse.specs.Steps.{◌>>=◌}
 use Rattle.tta_machine.specs.declared.refusal.Refusal.{Refusal}
 use Rattle.tta_machine.specs.declared.draft.Draft.{Draft}
 use Rattle.tta_machine.specs.declared.refusal.MachineError.{MachineError}

@@ -23,12 +23,12 @@ unfoldable pub use Rattle.tta_ops.specs.Reserved.{is_reserved}
 pub use Rattle.tta_ops.specs.Set.{stated}
 pub use Rattle.tta_ops.specs.Units.{AreArities, AreDistinct, Units, first_at, named}
 pub use Rattle.tta_ops.specs.declared.OpId.{OpId}
-pub use Rattle.tta_reading.specs.Lines.{Lexeme, Line, plain, texts}
-unfoldable pub use Rattle.tta_reading.specs.Lines.{lines_of}
-pub use Rattle.tta_reading.specs.Names.{Declared, named_in}
-pub use Rattle.tta_reading.specs.Steps.{at_line, only_if, or_refuse, refuse_if}
-pub use Rattle.tta_reading.specs.Words.{is_keyword, is_mark, is_name_kind, name_of, value_of}
-pub use Rattle.tta_reading.specs.declared.word.Word.{Word}
+pub use Rattle.tta_parse.specs.Lines.{Lexeme, Line, plain, texts}
+unfoldable pub use Rattle.tta_parse.specs.Lines.{lines_of}
+pub use Rattle.tta_parse.specs.Names.{Declared, named_in}
+pub use Rattle.tta_parse.specs.Steps.{at_line, only_if, or_refuse, refuse_if}
+pub use Rattle.tta_parse.specs.Words.{is_keyword, is_mark, is_name_kind, name_of, value_of}
+pub use Rattle.tta_parse.specs.declared.word.Word.{Word}
 unfoldable pub use Rattle.tta_text.specs.Numbers.{digits_of, negative_of, number_of, value_below}
 unfoldable pub use Rattle.tta_text.specs.Tokens.{mark_piece, negative_piece, number_piece, piece_at, tokens_from, tokens_of}
 pub use Rattle.tta_text.specs.Words.{is_name}

@@ -5,7 +5,7 @@ use Rattle.std.specs.Str.{bytes_eq}
 use Rattle.std.specs.Option.{option_map_or}
 use Rattle.std.specs.List.{list_any}
 use Rattle.tta_machine.specs.Cited.{or_refuse, refuse_if, Units, named, UnitOp, Op, Ldw, Stw, Ldf, Stf, Out, Take, Set, Guard, is_from_to, are_different, same_op, is_data_op, is_frame_op, is_stream_op, same_guard, has_result}
-use Rattle.tta_reading.specs.Steps.{◌>>=◌, ◌>>?◌}
+use Rattle.tta_parse.specs.Steps.{◌>>=◌, ◌>>?◌}
 use Rattle.std.specs.Prelude.{get_or}
 use Rattle.tta_machine.specs.declared.refusal.Refusal.{Refusal}
 use Rattle.tta_machine.specs.declared.refusal.Refusal.TheVariants.{Unknown, Twice, Range, Missing}

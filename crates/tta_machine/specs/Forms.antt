@@ -2,7 +2,7 @@
 -- which chooses the form.
 use Rattle.std.specs.Prelude.{ℕ, Bool, true, false, if◌then◌else◌, List, [], ◌∷◌, Option, Some, None, codes}
 use Rattle.tta_machine.specs.Cited.{Lexeme, Line, is_keyword, is_mark, name_of, value_of, only_if}
-use Rattle.tta_reading.specs.Steps.{◌>>?◌}
+use Rattle.tta_parse.specs.Steps.{◌>>?◌}
 
 -- one of two words
 abbrev pub one_of_two : (yes no : List ℕ) → Lexeme → Option Bool

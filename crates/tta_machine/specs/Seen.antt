@@ -1,7 +1,7 @@
 -- What the code reads, as the definitions see it.
 use Rattle.std.specs.Prelude.{Option, Result, option_map}
 use Rattle.tta_machine.specs.Cited.{texts, or_refuse}
-use Rattle.tta_reading.specs.Steps.{◌>>=◌}
+use Rattle.tta_parse.specs.Steps.{◌>>=◌}
 use Rattle.tta_machine.specs.declared.refusal.Refusal.{Refusal}
 use Rattle.tta_machine.specs.declared.refusal.Refusal.TheVariants.{Syntax}
 use Rattle.tta_machine.specs.declared.draft.Draft.{Draft}

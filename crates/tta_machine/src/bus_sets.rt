@@ -2,7 +2,7 @@
 
 ghost use Rattle.std.specs.Prelude.{◌≡◌, ℕ, ◌<◌, ◌^◌, List, ◌++◌, ◌∷◌, []};
 ghost use Rattle.std.specs.Prelude.{IfSome, option_map};
-ghost use Rattle.tta_reading.specs.Lines.{texts};
+ghost use Rattle.tta_parse.specs.Lines.{texts};
 ghost use Rattle.tta_machine.specs.BusSets.{set_once};
 ghost use Rattle.tta_machine.specs.Declarations.{buses_named};
 ghost use Rattle.tta_machine.specs.Draft.{bus_named};
@@ -10,7 +10,7 @@ ghost use Rattle.tta_machine.specs.Kept.{IsDraft};
 
 use crate::draft::Draft;
 use tta_arch::bus_bit;
-use tta_reading::Word;
+use tta_parse::Word;
 
 impl Draft {
     /// The set of the buses of names, bit k for bus k: `None` where a name names no bus, and

@@ -1,8 +1,8 @@
 //! The declarations of buses and sockets.
 
 ghost use Rattle.std.specs.Prelude.{◌≡◌, map};
-ghost use Rattle.tta_reading.specs.Lines.{plain};
-ghost use Rattle.tta_reading.specs.Taken.{Takes};
+ghost use Rattle.tta_parse.specs.Lines.{plain};
+ghost use Rattle.tta_parse.specs.Taken.{Takes};
 ghost use Rattle.tta_machine.specs.Forms.{bus_form, socket_form};
 ghost use Rattle.tta_machine.specs.Declarations.{take_bus, take_socket};
 ghost use Rattle.tta_machine.specs.Kept.{IsDraft};
@@ -16,7 +16,7 @@ use crate::syntax;
 use std::alloc::Global;
 use tta_arch::{Bus, Socket};
 use tta_list::Name;
-use tta_reading::Word;
+use tta_parse::Word;
 
 impl Draft {
     /// Takes a bus by the words after `bus`. It is refused as `Syntax` where they have another

@@ -1,9 +1,9 @@
 //! The declarations of control and of the spaces.
 
 ghost use Rattle.std.specs.Prelude.{◌≡◌, map, is_some, nat_lt, Ok};
-ghost use Rattle.tta_reading.specs.Steps.{refuse_if};
-ghost use Rattle.tta_reading.specs.Lines.{plain};
-ghost use Rattle.tta_reading.specs.Taken.{Takes};
+ghost use Rattle.tta_parse.specs.Steps.{refuse_if};
+ghost use Rattle.tta_parse.specs.Lines.{plain};
+ghost use Rattle.tta_parse.specs.Taken.{Takes};
 ghost use Rattle.tta_machine.specs.Forms.{control_form, space_form};
 ghost use Rattle.tta_machine.specs.Declarations.{take_control, take_space};
 ghost use Rattle.tta_machine.specs.declared.refusal.Refusal.TheVariants.{Twice, Range};
@@ -14,7 +14,7 @@ use crate::limits::{MOST_ADDRESS_BITS, MOST_DELAY, is_from_to};
 use crate::refusal::{LineError, Refusal};
 use crate::syntax;
 use tta_arch::Control;
-use tta_reading::Word;
+use tta_parse::Word;
 
 /// How many words a data space has at most.
 const MOST_DATA_WORDS: u32 = 1 << 20;

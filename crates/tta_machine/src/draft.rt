@@ -2,7 +2,7 @@
 
 use tta_arch::{Bus, Control, File, Guard, ImmUnit, Socket, Template, Unit};
 use tta_list::Items;
-use tta_reading::Names;
+use tta_parse::Names;
 
 /// What a name of a machine names: a part and its place in the list of its kind.
 #[derive(Clone, Copy)]

@@ -1,8 +1,8 @@
 //! The declarations of files and immediate units.
 
 ghost use Rattle.std.specs.Prelude.{◌≡◌, ◌<◌, ◌≤◌, false, map, not, ◌||◌, ◌==◌, nat_le, length};
-ghost use Rattle.tta_reading.specs.Lines.{plain};
-ghost use Rattle.tta_reading.specs.Taken.{Takes};
+ghost use Rattle.tta_parse.specs.Lines.{plain};
+ghost use Rattle.tta_parse.specs.Taken.{Takes};
 ghost use Rattle.tta_machine.specs.Forms.{file_form, imm_form};
 ghost use Rattle.tta_machine.specs.Declarations.{take_file, take_imm};
 ghost use Rattle.tta_machine.specs.Draft.{is_too_long};
@@ -21,7 +21,7 @@ use crate::syntax;
 use std::alloc::Global;
 use tta_arch::{File, ImmUnit};
 use tta_list::Name;
-use tta_reading::Word;
+use tta_parse::Word;
 
 impl Draft {
     /// Takes an immediate unit by the words after `imm`. It is refused as `Syntax` where they

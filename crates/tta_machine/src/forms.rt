@@ -1,6 +1,6 @@
 //! The declarations of a machine's text, each as the words of its line give it.
 
-use tta_reading::Word;
+use tta_parse::Word;
 
 /// `bus NAME short N signed`, or `unsigned`
 #[derive(Clone, Copy)]

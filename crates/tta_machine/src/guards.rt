@@ -3,8 +3,8 @@
 ghost use Rattle.std.specs.Prelude.{◌≡◌, ◌==◌, ◌<◌, ◌||◌, false, length, map, nat_le, not};
 ghost use Rattle.std.specs.Prelude.{option_map, slice_get};
 ghost use Rattle.std.specs.List.{list_any};
-ghost use Rattle.tta_reading.specs.Lines.{plain};
-ghost use Rattle.tta_reading.specs.Taken.{Takes};
+ghost use Rattle.tta_parse.specs.Lines.{plain};
+ghost use Rattle.tta_parse.specs.Taken.{Takes};
 ghost use Rattle.tta_machine.specs.Forms.{guard_form};
 ghost use Rattle.tta_machine.specs.Declarations.{take_guard};
 ghost use Rattle.tta_machine.specs.Guards.{guard_of};
@@ -19,7 +19,7 @@ use crate::refusal::{LineError, Refusal};
 use crate::syntax;
 use tta_arch::{File, Guard, GuardRef};
 use tta_list::entry_at;
-use tta_reading::Word;
+use tta_parse::Word;
 
 impl Draft {
     /// Takes a guard by the words after `guard`. It is refused as `Syntax` where they have

@@ -1,9 +1,9 @@
 //! The lines of a machine's text.
 
 ghost use Rattle.std.specs.Prelude.{◌≡◌, false, map, codes};
-ghost use Rattle.tta_reading.specs.Lines.{plain};
-ghost use Rattle.tta_reading.specs.Words.{is_keyword};
-ghost use Rattle.tta_reading.specs.Taken.{Takes};
+ghost use Rattle.tta_parse.specs.Lines.{plain};
+ghost use Rattle.tta_parse.specs.Words.{is_keyword};
+ghost use Rattle.tta_parse.specs.Taken.{Takes};
 ghost use Rattle.tta_ops.specs.Set.{stated};
 ghost use Rattle.tta_machine.specs.Kept.{IsDraft};
 ghost use Rattle.tta_machine.specs.Text as text;
@@ -12,7 +12,7 @@ use crate::draft::Draft;
 use crate::refusal::{LineError, Refusal};
 use std::alloc::Global;
 use tta_ops::UnitSet;
-use tta_reading::Word;
+use tta_parse::Word;
 
 impl Draft {
     /// The first word gives the kind of a line.

@@ -2,9 +2,9 @@
 
 ghost use Rattle.std.specs.Prelude.{◌≡◌, ◌++◌, ◌∷◌, [], false, if◌then◌else◌};
 ghost use Rattle.std.specs.Prelude.{Some, None, option_map, OnOk, IfErr};
-ghost use Rattle.tta_reading.specs.Names.{named_in};
-ghost use Rattle.tta_reading.specs.Steps.{or_refuse};
-ghost use Rattle.tta_reading.specs.declared.line_error.LineError.TheVariants.{NoMemory};
+ghost use Rattle.tta_parse.specs.Names.{named_in};
+ghost use Rattle.tta_parse.specs.Steps.{or_refuse};
+ghost use Rattle.tta_parse.specs.declared.line_error.LineError.TheVariants.{NoMemory};
 ghost use Rattle.tta_machine.specs.declared.refusal.Refusal.TheVariants.{Unknown};
 ghost use Rattle.tta_machine.specs.Draft.{nothing, is_taken};
 ghost use Rattle.tta_machine.specs.Draft.{bus_named, socket_named, file_named, imm_named};
@@ -17,7 +17,7 @@ use crate::refusal::LineError;
 use std::alloc::Global;
 use tta_arch::Socket;
 use tta_list::{Items, entry_at};
-use tta_reading::Names;
+use tta_parse::Names;
 
 impl Draft {
     /// The draft before the first line. It takes no memory.

@@ -5,9 +5,9 @@ ghost use Rattle.std.specs.Prelude.{length, nat_le, slice_get, slice_set, Some, 
 ghost use Rattle.std.specs.Prelude.{OnErr};
 ghost use Rattle.std.specs.List.{list_any};
 ghost use Rattle.std.specs.Option.{option_map_or};
-ghost use Rattle.tta_reading.specs.Lines.{plain};
-ghost use Rattle.tta_reading.specs.declared.line_error.LineError.TheVariants.{NoMemory};
-ghost use Rattle.tta_reading.specs.Taken.{Takes};
+ghost use Rattle.tta_parse.specs.Lines.{plain};
+ghost use Rattle.tta_parse.specs.declared.line_error.LineError.TheVariants.{NoMemory};
+ghost use Rattle.tta_parse.specs.Taken.{Takes};
 ghost use Rattle.tta_ops.specs.Set.{stated};
 ghost use Rattle.tta_machine.specs.Forms.{op_form};
 ghost use Rattle.tta_machine.specs.Declarations.{take_op, timed_op, untimed_op, op_named};
@@ -27,7 +27,7 @@ use std::alloc::AllocError;
 use tta_arch::{Op, Unit, UnitOp, same_op};
 use tta_list::entry_at;
 use tta_ops::UnitSet;
-use tta_reading::Word;
+use tta_parse::Word;
 
 impl Draft {
     /// Adds an operation to a unit by the words after `op`. It is refused as `Syntax` where they

@@ -1,7 +1,7 @@
 //! The machine of a text.
 
 ghost use Rattle.std.specs.Prelude.{◌≡◌, ◌≤◌, ◌^◌, length, Ok, Err, IfOk, IfErr, OnOk};
-ghost use Rattle.tta_reading.specs.Lines.{lines_of};
+ghost use Rattle.tta_parse.specs.Lines.{lines_of};
 ghost use Rattle.tta_ops.specs.Set.{stated};
 ghost use Rattle.tta_arch.specs.Over.{StandsOver};
 ghost use Rattle.tta_machine.specs.Draft.{nothing};
@@ -15,7 +15,7 @@ use crate::refusal::{LineError, MachineError};
 use std::alloc::Global;
 use tta_arch::Machine;
 use tta_ops::UnitSet;
-use tta_reading::Lines;
+use tta_parse::Lines;
 
 /// What all lines of a text declare.
 fn read_draft(alloc: Global, text: &[u8], units: &UnitSet) -> Result<Draft, MachineError>

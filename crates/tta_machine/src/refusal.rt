@@ -1,7 +1,7 @@
 //! Why a machine's text is refused.
 
 ghost use Rattle.std.specs.Prelude.{◌≡◌};
-ghost use Rattle.tta_reading.specs.declared.line_error.LineError.TheVariants.{NoMemory, Refused};
+ghost use Rattle.tta_parse.specs.declared.line_error.LineError.TheVariants.{NoMemory, Refused};
 ghost use Rattle.tta_machine.specs.Draft.{code_of};
 ghost use Rattle.tta_machine.specs.declared.refusal.MachineError.TheVariants.{};
 ghost use Rattle.tta_machine.specs.declared.refusal.MachineError.TheVariants.{NoMemory as no_memory};
@@ -60,7 +60,7 @@ pub enum MachineError {
 }
 
 /// Why a line declares nothing.
-pub type LineError = tta_reading::LineError<Refusal>;
+pub type LineError = tta_parse::LineError<Refusal>;
 
 impl From<Refusal> for LineError {
     ghost from_gives = { λ refusal e. e ≡ Refused refusal };

@@ -2,9 +2,9 @@
 
 ghost use Rattle.std.specs.Prelude.{◌≡◌, ◌<◌, false, length, map, option_map, slice_get};
 ghost use Rattle.std.specs.Prelude.{OnOk, IfErr};
-ghost use Rattle.tta_reading.specs.Lines.{plain};
-ghost use Rattle.tta_reading.specs.declared.line_error.LineError.TheVariants.{NoMemory};
-ghost use Rattle.tta_reading.specs.Taken.{Takes};
+ghost use Rattle.tta_parse.specs.Lines.{plain};
+ghost use Rattle.tta_parse.specs.declared.line_error.LineError.TheVariants.{NoMemory};
+ghost use Rattle.tta_parse.specs.Taken.{Takes};
 ghost use Rattle.tta_machine.specs.Forms.{template_form};
 ghost use Rattle.tta_machine.specs.Declarations.{take_template};
 ghost use Rattle.tta_machine.specs.Draft.{is_taken};
@@ -19,7 +19,7 @@ use crate::syntax;
 use std::alloc::Global;
 use tta_arch::{ImmUnit, Template};
 use tta_list::{Name, entry_at};
-use tta_reading::Word;
+use tta_parse::Word;
 
 impl Draft {
     /// Takes a template, at this line, by the words after `template`. It is refused as `Syntax`

@@ -1,8 +1,8 @@
 //! The declaration of a unit.
 
 ghost use Rattle.std.specs.Prelude.{◌≡◌, map};
-ghost use Rattle.tta_reading.specs.Lines.{plain};
-ghost use Rattle.tta_reading.specs.Taken.{Takes};
+ghost use Rattle.tta_parse.specs.Lines.{plain};
+ghost use Rattle.tta_parse.specs.Taken.{Takes};
 ghost use Rattle.tta_machine.specs.Forms.{unit_form};
 ghost use Rattle.tta_machine.specs.Declarations.{take_unit};
 ghost use Rattle.tta_machine.specs.Seen.{formed};
@@ -15,7 +15,7 @@ use crate::syntax;
 use std::alloc::Global;
 use tta_arch::Unit;
 use tta_list::{Items, Name};
-use tta_reading::Word;
+use tta_parse::Word;
 
 impl Draft {
     /// Takes a unit, without operations, by the words after `unit`. It is refused as `Syntax`

@@ -6,13 +6,13 @@ use Rattle.std.proofs.lemmas.Bool.{cases_lt, eq-eqb, or_right, or_left}
 use Rattle.std.proofs.lemmas.List.Folds.{list_any-append}
 use Rattle.std.proofs.lemmas.Option.{slice_get_past}
 use Rattle.tta_net.specs.Cited.{Units, State, start, Core, Network, Joined, joined, turn, interleaved, cycles, first_states}
-use Rattle.tta_cores.proofs.Clusters.{turn_none, turn_some, next_core}
+use Rattle.tta_kahn.proofs.Clusters.{turn_none, turn_some, next_core}
 use Rattle.tta_net.specs.Clusters.{fault_at}
 use Rattle.tta_net.specs.Rounds.{numbers, steps_in, after_rounds}
 use Rattle.tta_net.specs.Laws.{RoundsRest}
 use Rattle.tta_net.proofs.Running.{round_more}
 use Rattle.tta_net.proofs.Resting.{KeepNone, all_keep, rests}
-use Rattle.tta_cores.proofs.Pairs.{made_from as from_map}
+use Rattle.tta_kahn.proofs.Pairs.{made_from as from_map}
 use Rattle.tta_list.proofs.Sets.{set_count as length_set}
 use Rattle.tta_list.proofs.Lists.{map_count as length_map}
 

@@ -2,7 +2,7 @@
 use Rattle.std.proofs.Common.{◌≡◌, ℕ, ◌+◌, ◌-◌, ◌&&◌, Bool, true, false, List, [], ◌∷◌, length, Option, refl, sym, ap, subst, ◌∙◌, arith}
 use Rattle.std.specs.Prelude.{if◌then◌else◌, is_none}
 use Rattle.tta_net.specs.Cited.{IsFed, left, Units, Machine, Code, State, Outcome, Running, Halted, Waiting, Fault, next_of, next, Rings, Results, units_of, HeldState, StandsWith, is_fault, Core, Joined, stepped, is_waiting}
-use Rattle.tta_cores.proofs.Outcomes.{changes}
+use Rattle.tta_kahn.proofs.Outcomes.{changes}
 use Rattle.tta_net.specs.declared.member.Member.{Member}
 use Rattle.tta_net.specs.declared.step_result.StepResult.TheVariants as turn
 use Rattle.tta_net.specs.Members.{StandsAs, alone, turn_told, turn_of}

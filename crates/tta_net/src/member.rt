@@ -7,7 +7,7 @@ ghost use Rattle.tta_ops.specs.Set.{stated};
 ghost use Rattle.tta_code.specs.Cycle.{State};
 ghost use Rattle.tta_flight.specs.Flight.{StayBeside};
 ghost use Rattle.tta_sim.specs.Results.{AreKept};
-ghost use Rattle.tta_cores.specs.Network.{Joined, after_step, stepped};
+ghost use Rattle.tta_kahn.specs.Network.{Joined, after_step, stepped};
 ghost use Rattle.tta_net.specs.Members.{IsMemberOf, StandsAs, alone, turn_of};
 ghost use Rattle.tta_net.specs.Loaded.{CanLoad, IsFirst};
 ghost use Rattle.tta_net.specs.declared.step_result.StepResult.TheVariants as told;
@@ -15,8 +15,8 @@ ghost use Rattle.tta_net.specs.declared.step_result.StepResult.TheVariants as to
 use crate::outputs::Outputs;
 use crate::step_result::StepResult;
 use std::alloc::{AllocError, Global};
-use tta_cores::Core;
 use tta_flight::Region;
+use tta_kahn::Core;
 use tta_ops::UnitSet;
 use tta_sim::{CycleStep, Ending, SimState};
 

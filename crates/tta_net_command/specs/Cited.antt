@@ -2,9 +2,9 @@
 pub use Rattle.tta_code.specs.Cycle.{State}
 pub use Rattle.tta_code.specs.Legal.{IsLegalCode}
 pub use Rattle.tta_code.specs.Whole.{Whole, data_in, laid_by}
-pub use Rattle.tta_cores.specs.Cluster.{cycles, first_states}
-pub use Rattle.tta_cores.specs.Network.{AreAtRest, Joined, Network, joined}
-pub use Rattle.tta_cores.specs.declared.cores.Core.{Core}
+pub use Rattle.tta_kahn.specs.Cluster.{cycles, first_states}
+pub use Rattle.tta_kahn.specs.Network.{AreAtRest, Joined, Network, joined}
+pub use Rattle.tta_kahn.specs.declared.cores.Core.{Core}
 pub use Rattle.tta_load.specs.Held.{FileFails, Held, IsHeld, IsTaken, TakesBytes}
 pub use Rattle.tta_load.specs.Images.{IsImageFor, RefusesImage}
 pub use Rattle.tta_load.specs.Inputs.{Fills, RefusesInput}

@@ -3,8 +3,8 @@
 ghost use Rattle.std.specs.Prelude.{◌≡◌, ◌≤◌, ◌<◌, ◌^◌, ℕ, List, length, map, replicate};
 ghost use Rattle.std.specs.String.{string_bytes};
 ghost use Rattle.tta_ops.specs.Set.{stated};
-ghost use Rattle.tta_cores.specs.Network.{joined};
-ghost use Rattle.tta_cores.specs.Cluster.{first_states};
+ghost use Rattle.tta_kahn.specs.Network.{joined};
+ghost use Rattle.tta_kahn.specs.Cluster.{first_states};
 ghost use Rattle.tta_net.specs.Loaded.{CanLoadAll};
 ghost use Rattle.tta_net.specs.Clusters.{IsClusterOf, StandsFor, feeds_of, made_by};
 ghost use Rattle.tta_net.specs.declared.step_result.StepResult.TheVariants.{Ran};

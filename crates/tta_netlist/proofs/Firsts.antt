@@ -3,7 +3,7 @@ use Rattle.std.proofs.Common.{◌≡◌, ℕ, suc, ◌+◌, ◌-◌, ◌<◌, �
 use Rattle.std.specs.Prelude.{slice_index_or}
 use Rattle.std.specs.List.{remove}
 use Rattle.tta_ops.specs.Units.{Units}
-use Rattle.tta_cores.specs.declared.cores.Core.{Core}
+use Rattle.tta_kahn.specs.declared.cores.Core.{Core}
 use Rattle.tta_netlist.specs.Net.{AreSound, core_module, core_modules}
 
 -- a list is its first element and what is left without it

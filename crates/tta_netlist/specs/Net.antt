@@ -4,7 +4,7 @@ use Rattle.std.specs.List.{flat_map, enumerate_from}
 use Rattle.tta_ops.specs.Units.{Units}
 use Rattle.tta_arch.specs.declared.parts.Op.TheVariants.{Out, Take}
 use Rattle.tta_code.specs.Legal.{IsLegalCode}
-use Rattle.tta_cores.specs.declared.cores.Core.{Core}
+use Rattle.tta_kahn.specs.declared.cores.Core.{Core}
 use Rattle.tta_hardware.specs.Hardware.{circuit_of}
 use Rattle.tta_rtl.specs.Module.{module_of, offers}
 use Rattle.tta_wiring.specs.declared.part.Ends.{Ends}

@@ -9,7 +9,7 @@ ghost use Rattle.tta_netlist.specs.Net.{ends_of};
 use std::alloc::{AllocError, Global};
 use tta_arch::Op;
 use tta_code::Whole;
-use tta_cores::Core;
+use tta_kahn::Core;
 use tta_list::Items;
 use tta_ops::UnitSet;
 use tta_rtl::{Module, offers, push_core};

@@ -7,7 +7,7 @@ ghost use Rattle.tta_netlist.specs.Net.{AreSound, net_text};
 
 use crate::cores::{ends_of, push_modules};
 use std::alloc::{AllocError, Global};
-use tta_cores::Core;
+use tta_kahn::Core;
 use tta_ops::UnitSet;
 use tta_wiring::{push_queues, push_top};
 

@@ -1,7 +1,7 @@
 -- Lists that may be placed for others: a list itself, what the passes make of it, and what may be placed for such a list.
 use Rattle.std.proofs.Common.{ℕ, List, refl, subst, ◌∙◌, arith}
 use Rattle.tta_optim.specs.Cited.{Machine, hub_of, Item, BlockList}
-use Rattle.tta_optim.specs.Kept.{KeepsMeaning, KeepsFramed, DoesNoMore, AsksNoMore, IsStandIn, aim_of}
+use Rattle.tta_optim.specs.Kept.{KeepsMeaning, KeepsFramed, DoesNoMore, AsksNoMore, IsEquivalent, aim_of}
 use Rattle.tta_optim.specs.Passes.{optimise_items}
 use Rattle.tta_optim.proofs.Meanings.{framed_of, framed_next, optimise_meaning}
 use Rattle.tta_optim.proofs.NoMore.{optimise_no_more}
@@ -18,11 +18,11 @@ asks_of m items others d = record {
 
 -- a list with another that does no more and keeps the meaning, from every state
 pub stands_by : (m : Machine) (live : List (ℕ × ℕ)) (items others : List Item) → KeepsMeaning m live items others → AsksNoMore m items others
-    → IsStandIn m (record { items = items; live_out = live }) (record { items = others; live_out = live })
+    → IsEquivalent m (record { items = items; live_out = live }) (record { items = others; live_out = live })
 stands_by m live items others meaning spare = record { stands = record { live = refl; meaning = framed_of m live items others meaning }; spare = spare }
 
 -- a list may be placed for itself
-pub stands_itself : (m : Machine) (b : BlockList) → IsStandIn m b b
+pub stands_itself : (m : Machine) (b : BlockList) → IsEquivalent m b b
 stands_itself m b = record {
   stands = record {
     live = refl;
@@ -35,7 +35,7 @@ stands_itself m b = record {
 }
 
 -- what may be placed for a list's stand-in may be placed for the list
-pub stand_in_next : (m : Machine) (a b c : BlockList) → IsStandIn m a b → IsStandIn m b c → IsStandIn m a c
+pub stand_in_next : (m : Machine) (a b c : BlockList) → IsEquivalent m a b → IsEquivalent m b c → IsEquivalent m a c
 stand_in_next m a b c f g = record {
   stands = record {
     live = g.stands.live ∙ f.stands.live;
@@ -51,7 +51,7 @@ stand_in_next m a b c f g = record {
 }
 
 -- what the three passes make of a list may be placed for it
-pub optimised_stands : (m : Machine) (b : BlockList) → IsStandIn m b (record { items = optimise_items m b.live_out b.items; live_out = b.live_out })
+pub optimised_stands : (m : Machine) (b : BlockList) → IsEquivalent m b (record { items = optimise_items m b.live_out b.items; live_out = b.live_out })
 optimised_stands m b = record {
   stands = record { live = refl; meaning = framed_of m b.live_out _ _ (optimise_meaning m b.live_out b.items) };
   spare = asks_of m _ _ (optimise_no_more m b.live_out b.items);

@@ -104,7 +104,7 @@ pub record StandsFor (m : Machine) (b other : BlockList) : Type 0 where
   pub meaning : KeepsFramed m b.live_out b.items other.items
 
 -- a list may be placed for another: it stands for it, and asks for no more
-pub record IsStandIn (m : Machine) (b other : BlockList) : Type 0 where
+pub record IsEquivalent (m : Machine) (b other : BlockList) : Type 0 where
   pub stands : StandsFor m b other
   pub spare : AsksNoMore m b.items other.items
 

@@ -5,7 +5,7 @@ ghost use Rattle.std.specs.List.{list_all};
 ghost use Rattle.tta_moves.specs.Slots.{has_slot};
 ghost use Rattle.tta_optim.specs.Passes.{dead_items};
 
-use crate::wanted::Wanted;
+use crate::wanted::LiveOperands;
 use std::alloc::{AllocError, Global};
 use tta_arch::Machine;
 use tta_moves::Item;
@@ -13,7 +13,7 @@ use tta_moves::Item;
 /// The items but those whose write nothing of what stays reads, in one walk up.
 pub fn dead_items(
     alloc: Global,
-    wanted: &mut Wanted,
+    wanted: &mut LiveOperands,
     m: &Machine,
     live: &[(u8, u8)],
     items: &[Item],

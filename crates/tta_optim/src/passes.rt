@@ -11,7 +11,7 @@ use crate::bypass_walk::bypass_items;
 use crate::dead_walk::dead_items;
 use crate::notes::Notes;
 use crate::share_walk::share_items;
-use crate::wanted::Wanted;
+use crate::wanted::LiveOperands;
 use std::alloc::{AllocError, Global};
 use tta_arch::Machine;
 use tta_connect::{Joined, Net};
@@ -80,7 +80,7 @@ pub fn dead(alloc: Global, b: &BlockList, m: &Machine, net: &Net) -> Result<Bloc
     ensures no_more { IfOk result (λ r. DoesNoMore m.now b.now.items r.items) }
     ensures live { IfOk result (λ r. r.live_out ≡ b.now.live_out) }
 {
-    let mut wanted = Wanted::new(alloc)?;
+    let mut wanted = LiveOperands::new(alloc)?;
     let live = b.live_out.as_slice();
     let items = dead_items(alloc, &mut wanted, m, live, b.items.as_slice())?;
     let r = with_items(alloc, b, items)?;

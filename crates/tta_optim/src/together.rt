@@ -13,7 +13,7 @@ use crate::dead_walk::dead_items;
 use crate::notes::Notes;
 use crate::passes::with_items;
 use crate::share_walk::share_items;
-use crate::wanted::Wanted;
+use crate::wanted::LiveOperands;
 use std::alloc::{AllocError, Global};
 use tta_arch::Machine;
 use tta_connect::{Joined, Net};
@@ -43,14 +43,14 @@ impl Passed {
 #[derive(Drop)]
 pub struct Passes {
     notes: Notes,
-    wanted: Wanted,
+    wanted: LiveOperands,
 }
 
 impl Passes {
     /// The passes for any number of lists. It fails only where there is no memory.
     pub fn new(alloc: Global) -> Result<Self, AllocError> {
         let notes = Notes::new(alloc)?;
-        let wanted = Wanted::new(alloc)?;
+        let wanted = LiveOperands::new(alloc)?;
         Ok(Passes { notes, wanted })
     }
 

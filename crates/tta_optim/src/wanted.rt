@@ -18,12 +18,12 @@ use tta_moves::parts::{is_unguarded, source_of};
 /// by the numbers of places. The table serves one list after another and is not cleared between
 /// them: a place is wanted where its mark is the number of the list.
 #[derive(Drop)]
-pub struct Wanted {
+pub struct LiveOperands {
     list: u64,
     marks: Vec<u64>,
 }
 
-impl Model for Wanted {
+impl Model for LiveOperands {
     ghost use Rattle.std.specs.Prelude.{List, Bool, map, ◌==◌};
     ghost use Rattle.tta_optim.specs.Notes.{AreStamps};
 
@@ -66,13 +66,13 @@ fn mark_of(list: u64, is: bool) -> u64
     if is { list } else { 0 }
 }
 
-impl Wanted {
+impl LiveOperands {
     ghost use Rattle.std.specs.Prelude.{replicate, false};
     ghost use Rattle.tta_optim.specs.Notes.{set_wanted, dead_by, wanted_before, wanted_behind};
 
     /// A table for any number of lists. The only error is out of memory.
     pub fn new(alloc: Global) -> Result<Self, AllocError> {
-        Ok(Wanted {
+        Ok(LiveOperands {
             list: 1,
             marks: vec![in alloc; 0; PLACES]?,
         })

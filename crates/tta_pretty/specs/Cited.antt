@@ -13,5 +13,5 @@ pub use Rattle.tta_program.specs.declared.program.DataLine.{DataLine}
 pub use Rattle.tta_program.specs.declared.program.Proc.{Proc}
 pub use Rattle.tta_program.specs.declared.step.Step.{Step}
 pub use Rattle.tta_program.specs.declared.step.Step.TheVariants.{Apply, Copy, End, Goto, Halt, If, Invoke, Load, Put, Return, Store, Take, When}
-pub use Rattle.tta_reading.specs.Lines.{Lexeme, Line}
+pub use Rattle.tta_parse.specs.Lines.{Lexeme, Line}
 pub use Rattle.tta_text.specs.declared.lexeme.Kind.TheVariants.{Mark, Name, Number}

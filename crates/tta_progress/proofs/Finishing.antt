@@ -15,12 +15,12 @@ use Rattle.tta_circuit.specs.Meaning.{is_set}
 use Rattle.tta_hardware.specs.Signals.{Asks}
 use Rattle.tta_hardware.specs.Stands.{is_halted}
 use Rattle.tta_hardware.specs.Theorem.{is_fault, is_waiting}
-use Rattle.tta_cores.specs.declared.cores.Core.{Core}
-use Rattle.tta_cores.specs.Network.{Network, Joined, output_of, feeder_of, after_step, turn, joined}
-use Rattle.tta_cores.specs.Cluster.{cycles_given, cluster_given, first_states, IsRestGiven}
-use Rattle.tta_cores.specs.Laws.{IsCore}
-use Rattle.tta_cores.proofs.Clusters.{next_core, turn_none, turn_some}
-use Rattle.tta_cores.proofs.CoreQueues.{cores_use}
+use Rattle.tta_kahn.specs.declared.cores.Core.{Core}
+use Rattle.tta_kahn.specs.Network.{Network, Joined, output_of, feeder_of, after_step, turn, joined}
+use Rattle.tta_kahn.specs.Cluster.{cycles_given, cluster_given, first_states, IsRestGiven}
+use Rattle.tta_kahn.specs.Laws.{IsCore}
+use Rattle.tta_kahn.proofs.Clusters.{next_core, turn_none, turn_some}
+use Rattle.tta_kahn.proofs.CoreQueues.{cores_use}
 use Rattle.tta_joint.specs.Joint.{waiting_for}
 use Rattle.tta_board.specs.Board.{Board, Inputs, Powers, is_feeder, have_room, lines, board_at, came_by, AreBoardClocks}
 use Rattle.tta_board.specs.Laws.{StandsAmong, AreFine, AreSpaces, NeverFault, HasRun}

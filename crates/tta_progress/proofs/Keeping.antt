@@ -2,9 +2,9 @@
 use Rattle.std.proofs.Common.{◌≡◌, ⊎_elim, ℕ, ◌+◌, ◌-◌, Bool, true, false, List, [], ◌∷◌, length, drop, Option, Some, None, refl, sym, ap, ◌∙◌}
 use Rattle.std.specs.Prelude.{if◌then◌else◌, slice_get}
 use Rattle.tta_list.proofs.Lists.{slice_get-changed}
-use Rattle.tta_cores.specs.Network.{Network, Joined, fed_to, after_step, stepped, turn, interleaved}
-use Rattle.tta_cores.specs.Queues.{UsesQueues}
-use Rattle.tta_cores.proofs.Clusters.{next_core, turn_none, turn_some}
+use Rattle.tta_kahn.specs.Network.{Network, Joined, fed_to, after_step, stepped, turn, interleaved}
+use Rattle.tta_kahn.specs.Queues.{UsesQueues}
+use Rattle.tta_kahn.proofs.Clusters.{next_core, turn_none, turn_some}
 
 module _ {S : Type 0} (net : Network S) (uses : UsesQueues net) where
   abbrev pub KeepNone : List (Joined S) → Type 0

@@ -5,11 +5,11 @@ use Rattle.std.specs.Option.{option_map_or}
 use Rattle.std.specs.List.{AllByRecursion}
 use Rattle.tta_ops.specs.Units.{Units}
 use Rattle.tta_code.specs.Cycle.{State}
-use Rattle.tta_cores.specs.declared.cores.Core.{Core}
-use Rattle.tta_cores.specs.Network.{Network, Joined, output_of, feeder_of, fed_to, after_step}
-use Rattle.tta_cores.specs.Cluster.{cycles_given}
-use Rattle.tta_cores.specs.Laws.{IsCore}
-use Rattle.tta_cores.proofs.CoreQueues.{cores_use}
+use Rattle.tta_kahn.specs.declared.cores.Core.{Core}
+use Rattle.tta_kahn.specs.Network.{Network, Joined, output_of, feeder_of, fed_to, after_step}
+use Rattle.tta_kahn.specs.Cluster.{cycles_given}
+use Rattle.tta_kahn.specs.Laws.{IsCore}
+use Rattle.tta_kahn.proofs.CoreQueues.{cores_use}
 use Rattle.tta_joint.specs.Joint.{HaveCome, waiting_for}
 use Rattle.tta_joint.proofs.AtOnce.{step_more}
 use Rattle.tta_joint.proofs.Joining.{left_begins}

@@ -16,10 +16,10 @@ use Rattle.tta_hardware.proofs.Chained.{going}
 use Rattle.tta_hardware.proofs.Circuits.{is_settled}
 use Rattle.tta_queue.specs.Queue.{InReady}
 use Rattle.tta_queue.specs.Laws.{Shows}
-use Rattle.tta_cores.specs.declared.cores.Core.{Core}
-use Rattle.tta_cores.specs.Network.{Network, Joined, after_step}
-use Rattle.tta_cores.specs.Cluster.{cycles_given}
-use Rattle.tta_cores.specs.Laws.{IsCore}
+use Rattle.tta_kahn.specs.declared.cores.Core.{Core}
+use Rattle.tta_kahn.specs.Network.{Network, Joined, after_step}
+use Rattle.tta_kahn.specs.Cluster.{cycles_given}
+use Rattle.tta_kahn.specs.Laws.{IsCore}
 use Rattle.tta_joint.specs.Joint.{waiting_for}
 use Rattle.tta_board.specs.Board.{Board, Inputs, is_feeder, have_room, lines, pins_of, AreWired}
 use Rattle.tta_board.specs.Laws.{StandsAmong, StandForCores, AreFine}

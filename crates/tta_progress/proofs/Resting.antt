@@ -10,11 +10,11 @@ use Rattle.tta_code.specs.Cycle.{State}
 use Rattle.tta_circuit.specs.Meaning.{is_set}
 use Rattle.tta_hardware.specs.Signals.{Goes, Puts, PutWord}
 use Rattle.tta_hardware.specs.Stands.{is_halted}
-use Rattle.tta_cores.specs.declared.cores.Core.{Core}
-use Rattle.tta_cores.specs.Network.{Network, Joined, after_step, turn, interleaved, output_of}
-use Rattle.tta_cores.specs.Cluster.{cycles_given, cluster_given}
-use Rattle.tta_cores.specs.Laws.{IsCore}
-use Rattle.tta_cores.proofs.Clusters.{turn_none}
+use Rattle.tta_kahn.specs.declared.cores.Core.{Core}
+use Rattle.tta_kahn.specs.Network.{Network, Joined, after_step, turn, interleaved, output_of}
+use Rattle.tta_kahn.specs.Cluster.{cycles_given, cluster_given}
+use Rattle.tta_kahn.specs.Laws.{IsCore}
+use Rattle.tta_kahn.proofs.Clusters.{turn_none}
 use Rattle.tta_joint.specs.Joint.{is_among, new_words, HaveCome, waiting_for}
 use Rattle.tta_board.specs.Board.{Board, Inputs, Powers, have_room, lines, pins_of, board_at, came_by, AreBoardClocks}
 use Rattle.tta_board.specs.Laws.{StandForCores, AreFine, AreSpaces, NeverFault, HasClocked, HasRun}

@@ -6,10 +6,10 @@ use Rattle.tta_code.specs.Cycle.{State}
 use Rattle.tta_circuit.specs.Meaning.{is_set}
 use Rattle.tta_hardware.specs.Signals.{Goes}
 use Rattle.tta_hardware.specs.Stands.{is_halted}
-use Rattle.tta_cores.specs.declared.cores.Core.{Core}
-use Rattle.tta_cores.specs.Network.{Joined, feeder_of, after_step}
-use Rattle.tta_cores.specs.Cluster.{cycles_given, cluster_given, IsRestGiven}
-use Rattle.tta_cores.specs.Laws.{IsCore}
+use Rattle.tta_kahn.specs.declared.cores.Core.{Core}
+use Rattle.tta_kahn.specs.Network.{Joined, feeder_of, after_step}
+use Rattle.tta_kahn.specs.Cluster.{cycles_given, cluster_given, IsRestGiven}
+use Rattle.tta_kahn.specs.Laws.{IsCore}
 use Rattle.tta_joint.specs.Joint.{waiting_for}
 use Rattle.tta_board.specs.Board.{Board, Inputs, Powers, lines, AreWired, board_at, came_by, AreBoardClocks}
 use Rattle.tta_board.specs.Laws.{StandForCores, AreFine, AreSpaces, NeverFault, HasComeBy, HasRun}

@@ -4,9 +4,9 @@ use Rattle.std.specs.Option.{option_map_or}
 use Rattle.tta_ops.specs.Units.{Units}
 use Rattle.tta_code.specs.Cycle.{State}
 use Rattle.tta_hardware.specs.Stands.{is_halted}
-use Rattle.tta_cores.specs.declared.cores.Core.{Core}
-use Rattle.tta_cores.specs.Network.{Joined, after_step}
-use Rattle.tta_cores.specs.Cluster.{cycles_given}
+use Rattle.tta_kahn.specs.declared.cores.Core.{Core}
+use Rattle.tta_kahn.specs.Network.{Joined, after_step}
+use Rattle.tta_kahn.specs.Cluster.{cycles_given}
 use Rattle.tta_joint.specs.Joint.{waiting_for}
 use Rattle.tta_board.specs.Board.{have_room}
 

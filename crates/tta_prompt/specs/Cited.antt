@@ -16,6 +16,6 @@ pub use Rattle.tta_ops.specs.Units.{Units}
 pub use Rattle.tta_ports.specs.Output.{IsCut, IsPut, IsQuiet, Output}
 pub use Rattle.tta_ports.specs.declared.error.Failed.{Failed}
 pub use Rattle.tta_report.specs.Replies.{reply_text}
-pub use Rattle.tta_reading.specs.Lines.{Lexeme, Line}
-pub use Rattle.tta_reading.specs.Words.{is_keyword, value_of}
+pub use Rattle.tta_parse.specs.Lines.{Lexeme, Line}
+pub use Rattle.tta_parse.specs.Words.{is_keyword, value_of}
 pub use Rattle.tta_sim.specs.Held.{IsRunOf, Stands}

@@ -1,13 +1,13 @@
 //! What the words of a line ask at a prompt alone.
 
 ghost use Rattle.std.specs.Prelude.{◌≡◌, ◌^◌, ◌≤◌, length};
-ghost use Rattle.tta_reading.specs.Lines.{plain};
+ghost use Rattle.tta_parse.specs.Lines.{plain};
 ghost use Rattle.tta_debug.specs.Words.{words_of};
 ghost use Rattle.tta_prompt.specs.Own as spec;
 ghost use Rattle.tta_prompt.specs.Own.{own_by};
 
 use tta_debug::next_word;
-use tta_reading::Word;
+use tta_parse::Word;
 use tta_text::Scanner;
 
 /// What can be asked at a prompt alone.

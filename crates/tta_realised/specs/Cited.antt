@@ -1,5 +1,5 @@
 -- What the definitions and lemmas of this crate cite of other crates, passed on from one place. Declares nothing.
-pub use Rattle.tta_agree.specs.Agrees.{Agrees, AgreesAt, IsGiven, WaitAlike, code_at, program_at}
+pub use Rattle.tta_refines.specs.Agrees.{Agrees, AgreesAt, IsGiven, WaitAlike, code_at, program_at}
 pub use Rattle.tta_arch.specs.Machine.{Machine}
 pub use Rattle.tta_arch.specs.Rules.{IsMachine}
 pub use Rattle.tta_build.specs.Statement.{IsBuilt}

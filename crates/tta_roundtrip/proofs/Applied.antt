@@ -4,9 +4,9 @@ use Rattle.std.specs.Prelude.{not, if◌then◌else◌, codes, option_map, optio
 use Rattle.std.specs.Option.{option_map_or}
 use Rattle.std.specs.List.{AllByRecursion}
 use Rattle.tta_roundtrip.specs.Cited.{is_name, Lexeme, Line, lines_of, is_keyword, is_mark, name_of, value_of, constant_of, only_if, is_reserved, free_name, operand_of, operands_alone, names_alone, rel_of, Form, ApplyForm, LabelForm, HaltForm, EndForm, proc_form, store_form, put_form, if_form, goto_form, when_form, call_form, return_form, alone_form, assign_form, named_form, form_of, said_from}
-use Rattle.tta_reading.specs.Steps.{◌>>?◌}
-use Rattle.tta_reading.proofs.Steps.{only_if-some}
-use Rattle.tta_reading.proofs.TextNames.{NamesToken, LineNames, text_names}
+use Rattle.tta_parse.specs.Steps.{◌>>?◌}
+use Rattle.tta_parse.proofs.Steps.{only_if-some}
+use Rattle.tta_parse.proofs.TextNames.{NamesToken, LineNames, text_names}
 use Rattle.tta_tac.specs.Forms.{data_form}
 
 -- whether the operation of a line, if it names one, has a name and one operand or two

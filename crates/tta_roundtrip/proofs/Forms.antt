@@ -8,7 +8,7 @@ use Rattle.std.proofs.lemmas.Fmt.{decimal_is_IsNumeral}
 use Rattle.std.proofs.lemmas.Bool.Decides.{nat_tests}
 use Rattle.tta_list.proofs.Tests.{and_left}
 use Rattle.tta_roundtrip.specs.Cited.{only_if, Mark, Line, constant_of, is_reserved, reserved_words, Src, Var, Word, Rel, Eq, Ne, Lt, Ge, Ltu, Geu, Operand, Named, Constant, Form, ProcForm, DataForm, LabelForm, CopyForm, ApplyForm, LoadForm, StoreForm, PutForm, TakeForm, IfForm, GotoForm, WhenForm, CallForm, ReturnForm, HaltForm, EndForm, free_name, or_constant, constant_operand, operand_of, operands_alone, names_alone, rel_of, form_of, proc_form, store_form, put_form, if_form, goto_form, when_form, call_form, return_form, assign_form, named_form}
-use Rattle.tta_reading.specs.Steps.{◌>>?◌}
+use Rattle.tta_parse.specs.Steps.{◌>>?◌}
 use Rattle.tta_tac.specs.Forms.{data_form}
 use Rattle.tta_pretty.specs.Printed.{word, number, equals, var_name, label_name, proc_name, src_word, src_words, rel_name, var_names, words}
 use Rattle.tta_list.proofs.Lists.{any_there as any_from_one}

@@ -7,10 +7,10 @@ use Rattle.std.specs.Str.{bytes_eq}
 use Rattle.std.proofs.lemmas.Bool.{and_from, eqb-true, eq-eqb, le-leb}
 use Rattle.tta_list.proofs.Tests.{and_left, and_right}
 use Rattle.tta_roundtrip.specs.Cited.{Declared, named_in, refuse_if, at_line, Units, Step, UnknownLabel, Arity, Operand, Named, Constant, Form, ProcForm, DataForm, LabelForm, CopyForm, ApplyForm, LoadForm, StoreForm, PutForm, TakeForm, IfForm, GotoForm, WhenForm, CallForm, ReturnForm, HaltForm, EndForm, Unlinked, Plain, IfTo, GotoTo, CallTo, Draft, numbered, with_var, var_number, with_operand, with_operands, src_of, srcs_of, vars_after, step_of, Said, Block, label_in, vars_said, steps_said, proc_said, callee_named, params_of, link_step, link_steps, link_proc, link_procs, Proc}
-use Rattle.tta_reading.specs.Steps.{◌>>=◌}
+use Rattle.tta_parse.specs.Steps.{◌>>=◌}
 use Rattle.tta_program.specs.declared.step.Step.TheVariants as step
 use Rattle.tta_tac.specs.Grammar.{step_lines}
-use Rattle.tta_reading.proofs.Steps.{same_ok, refuse_if-ok, then-ok, some-ok, at_line-ok}
+use Rattle.tta_parse.proofs.Steps.{same_ok, refuse_if-ok, then-ok, some-ok, at_line-ok}
 use Rattle.tta_roundtrip.proofs.Nesting.{is_inner}
 use Rattle.tta_roundtrip.specs.Readable.{in_src, mentions, are_in_order, is_in_order}
 use Rattle.tta_list.proofs.Lists.{same_bytes as bytes_self}

@@ -8,7 +8,7 @@ use Rattle.std.proofs.lemmas.Bool.{eqb-true, eq-eqb, cases_lt, ltb-true}
 use Rattle.std.proofs.lemmas.Option.{slice_get_within}
 use Rattle.tta_list.proofs.Tests.{and_left, and_right}
 use Rattle.tta_roundtrip.specs.Cited.{Declared, named_in, or_refuse, Units, Src, Step, Copy, Apply, Load, Store, Put, Take, If, Goto, When, Invoke, Return, Halt, End, Proc, Program, IsProc, is_src, is_call, is_step, is_over, UnknownLabel, CallTo, Draft, numbered, has_twice, params_of, link_step, link_steps, link_proc, link_procs, proc_said, vars_said, names}
-use Rattle.tta_reading.specs.Steps.{◌>>=◌}
+use Rattle.tta_parse.specs.Steps.{◌>>=◌}
 use Rattle.tta_tac.specs.Grammar.{step_lines}
 use Rattle.tta_pretty.specs.Printed.{var_name, label_name, proc_name, var_names}
 use Rattle.tta_roundtrip.specs.Readable.{is_in_order}

@@ -8,8 +8,8 @@ use Rattle.std.proofs.lemmas.Bool.{and_from, not-true}
 use Rattle.std.proofs.Math.Bool.{or-true}
 use Rattle.tta_list.proofs.Tests.{and_left, and_right}
 use Rattle.tta_roundtrip.specs.Cited.{is_name, Declared, named_in, refuse_if, at_line, Units, named, first_at, Step, UnknownLabel, Arity, Form, ProcForm, DataForm, LabelForm, CopyForm, ApplyForm, LoadForm, StoreForm, PutForm, TakeForm, IfForm, GotoForm, WhenForm, CallForm, ReturnForm, HaltForm, EndForm, Unlinked, Plain, IfTo, GotoTo, CallTo, Draft, vars_after, op_id, step_of, callee_named, params_of, link_step, link_steps, Said, steps_said, is_fit, target, names, is_target}
-use Rattle.tta_reading.specs.Steps.{◌>>=◌}
-use Rattle.tta_reading.proofs.Steps.{same_ok, refuse_if-ok, then-ok, some-ok, at_line-ok}
+use Rattle.tta_parse.specs.Steps.{◌>>=◌}
+use Rattle.tta_parse.proofs.Steps.{same_ok, refuse_if-ok, then-ok, some-ok, at_line-ok}
 use Rattle.tta_program.specs.declared.step.Step.TheVariants as step
 use Rattle.tta_pretty.specs.Printed.{op_name}
 use Rattle.tta_roundtrip.specs.Readable.{is_named}

@@ -5,8 +5,8 @@ use Rattle.std.specs.List.{flat_map, AllByRecursion}
 use Rattle.std.proofs.lemmas.List.{append_assoc, append-nil}
 use Rattle.tta_text.specs.declared.lexeme.Kind.{Kind}
 use Rattle.tta_roundtrip.specs.Cited.{Name, Number, Negative, Mark, Eol, Bad, is_newline, is_word_byte, first_is, is_name, token, piece_at, tokens_from, tokens_of, Lexeme, Line, is_line_end, lines_from, lines_of}
-use Rattle.tta_reading.proofs.TextNames.{slice-between}
-use Rattle.tta_reading.proofs.Scanned.{IsScanned, name_scanned, number_scanned, equals_scanned, colon_scanned}
+use Rattle.tta_parse.proofs.TextNames.{slice-between}
+use Rattle.tta_parse.proofs.Scanned.{IsScanned, name_scanned, number_scanned, equals_scanned, colon_scanned}
 use Rattle.tta_pretty.specs.Printed.{Printed, Words, Label, spaced, line_text, word}
 use Rattle.tta_text.proofs.ShownWords.{tokens-front}
 

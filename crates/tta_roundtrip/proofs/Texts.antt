@@ -5,8 +5,8 @@ use Rattle.std.specs.List.{list_all, AllByRecursion}
 use Rattle.std.proofs.lemmas.Bool.{and_from}
 use Rattle.tta_list.proofs.Tests.{and_left, and_right}
 use Rattle.tta_roundtrip.specs.Cited.{lines_of, Units, Proc, DataLine, Draft, numbered, link_steps, link_proc, link_procs, Said, said_from, Block, blocks, proc_said, draft_said, is_fit}
-use Rattle.tta_reading.specs.Steps.{◌>>=◌}
-use Rattle.tta_reading.proofs.Steps.{same_ok, then-ok}
+use Rattle.tta_parse.specs.Steps.{◌>>=◌}
+use Rattle.tta_parse.proofs.Steps.{same_ok, then-ok}
 use Rattle.tta_tac.proofs.Described.{program_said}
 use Rattle.tta_pretty.specs.Printed.{data_lines, proc_lines, step_lines}
 use Rattle.tta_roundtrip.specs.Readable.{is_named}

@@ -17,11 +17,11 @@ pub use Rattle.tta_program.specs.declared.program.DataLine.{DataLine}
 pub use Rattle.tta_program.specs.declared.program.Proc.{Proc}
 pub use Rattle.tta_program.specs.declared.step.Step.{Step}
 pub use Rattle.tta_program.specs.declared.step.Step.TheVariants.{Apply, Copy, End, Goto, Halt, If, Invoke, Load, Put, Return, Store, Take, When}
-pub use Rattle.tta_reading.specs.Lines.{Lexeme, Line, is_line_end, lines_from}
-unfoldable pub use Rattle.tta_reading.specs.Lines.{lines_of}
-pub use Rattle.tta_reading.specs.Names.{Declared, named_in}
-pub use Rattle.tta_reading.specs.Steps.{at_line, only_if, or_refuse, refuse_if}
-pub use Rattle.tta_reading.specs.Words.{constant_of, is_keyword, is_mark, name_of, value_of}
+pub use Rattle.tta_parse.specs.Lines.{Lexeme, Line, is_line_end, lines_from}
+unfoldable pub use Rattle.tta_parse.specs.Lines.{lines_of}
+pub use Rattle.tta_parse.specs.Names.{Declared, named_in}
+pub use Rattle.tta_parse.specs.Steps.{at_line, only_if, or_refuse, refuse_if}
+pub use Rattle.tta_parse.specs.Words.{constant_of, is_keyword, is_mark, name_of, value_of}
 pub use Rattle.tta_tac.specs.Draft.{CallTo, Draft, GotoTo, IfTo, Plain, Unlinked}
 pub use Rattle.tta_tac.specs.FirstPass.{apply_step, arity_of, asked_op, has_many_args, has_twice, has_wrong_arity, is_end, lacks_op, numbered, op_id, src_of, srcs_of, step_of, var_number, vars_after, with_operand, with_operands, with_var}
 pub use Rattle.tta_tac.specs.Forms.{ApplyForm, CallForm, Constant, CopyForm, DataForm, EndForm, Form, GotoForm, HaltForm, IfForm, LabelForm, LoadForm, Named, Operand, ProcForm, PutForm, ReturnForm, StoreForm, TakeForm, WhenForm, alone_form, constant_operand, free_name, names_alone, operand_of, operands_alone, or_constant, rel_of}

@@ -8,8 +8,8 @@ use Rattle.std.proofs.lemmas.List.Folds.{list_all-append}
 use Rattle.tta_list.proofs.Tests.{and_left, and_right, offered}
 use Rattle.tta_list.proofs.Lists.{all_append}
 use Rattle.tta_sample_laws.specs.Cited.{lines_of, Declared, named_in, Units, named, truth, Var, Word, Ne, Step, Proc, Program, Halted, seq, holds, UnknownLabel, Form, ProcForm, Unlinked, Plain, IfTo, Draft, vars_after, op_id, is_end, numbered, link_steps, link_proc, link_procs, Said, Block, said_from, proc_in, up_to_end, blocks, vars_said, labels_said, steps_said, step_lines, proc_said, draft_said, is_fit, IsBlock, KeepsRules, IsProgramText, sample_text}
-use Rattle.tta_reading.specs.Steps.{◌>>=◌}
-use Rattle.tta_reading.proofs.Steps.{same_ok, then-ok, some-ok}
+use Rattle.tta_parse.specs.Steps.{◌>>=◌}
+use Rattle.tta_parse.proofs.Steps.{same_ok, then-ok, some-ok}
 use Rattle.tta_ops.specs.Arithmetic.{arith as arithmetic}
 use Rattle.tta_program.specs.declared.step.Step.TheVariants as step
 use Rattle.tta_tac.proofs.Described.{program_said}

@@ -6,8 +6,8 @@ use Rattle.std.specs.Fmt.{digits}
 use Rattle.std.specs.List.{flat_map, AllByRecursion}
 use Rattle.std.proofs.lemmas.List.{append_assoc}
 use Rattle.tta_sample_laws.specs.Cited.{Declared, named_in, Units, Var, Word, Lt, Ltu, Step, UnknownLabel, Form, Named, Constant, LabelForm, CopyForm, ApplyForm, LoadForm, StoreForm, PutForm, IfForm, WhenForm, Unlinked, Plain, IfTo, Draft, with_var, vars_after, var_number, op_id, step_of, numbered, link_step, link_steps, label_in, steps_said, step_lines, var_name, label_name}
-use Rattle.tta_reading.specs.Steps.{◌>>=◌}
-use Rattle.tta_reading.proofs.Steps.{same_ok, then-ok, some-ok, at_line-ok}
+use Rattle.tta_parse.specs.Steps.{◌>>=◌}
+use Rattle.tta_parse.proofs.Steps.{same_ok, then-ok, some-ok, at_line-ok}
 use Rattle.tta_program.specs.declared.step.Step.TheVariants as step
 use Rattle.tta_roundtrip.proofs.Said.{numbered_from}
 use Rattle.tta_sample_laws.proofs.Drawn.{Drawn, Two, One, Shown, Fixed, Loaded, Stored, Chosen, Skipped, IsDrawn}

@@ -15,8 +15,8 @@ pub use Rattle.tta_program.specs.declared.program.DataLine.{DataLine}
 pub use Rattle.tta_program.specs.declared.program.Proc.{Proc}
 pub use Rattle.tta_program.specs.declared.step.Step.{Step}
 pub use Rattle.tta_program.specs.declared.step.Step.TheVariants.{Apply, Copy, End, Goto, Halt, If, Invoke, Load, Put, Return, Store, Take, When}
-unfoldable pub use Rattle.tta_reading.specs.Lines.{lines_of}
-pub use Rattle.tta_reading.specs.Names.{Declared, named_in}
+unfoldable pub use Rattle.tta_parse.specs.Lines.{lines_of}
+pub use Rattle.tta_parse.specs.Names.{Declared, named_in}
 pub use Rattle.tta_sample.specs.Sample.{assigned_of, body, constant_of, copied_of, copy_constant, first_of, head, kind_line, kind_of, late_line, load, middle_line, next_number, of_one, of_two, put_out, sample_text, second_of, skipped, store, tail, when}
 pub use Rattle.tta_tac.specs.Draft.{Draft, IfTo, Plain, Unlinked}
 pub use Rattle.tta_tac.specs.FirstPass.{has_twice, is_end, numbered, op_id, step_of, var_number, vars_after, with_var}

@@ -9,8 +9,8 @@ use Rattle.std.proofs.Math.Nat.{pow-le-pow_right}
 use Rattle.tta_select.specs.Cited.{Units, GuardRef, Dest, Op, Stw, Ldf, Stf, Machine, IsMachine, Choice, hub_of, offered, IsChoice, ItemSource, LongValue, Item, Move, source_of, source_of_long, joined, is_list, is_straight, Frame, RStep, RBlock, StandsOver, names, assigns_block}
 use Rattle.tta_arch.specs.Rules.{is_control}
 use Rattle.tta_moves.specs.declared.items.LongValue.TheVariants as long
-use Rattle.tta_rcode.specs.declared.code.Place.{Place as RPlace}
-use Rattle.tta_rcode.specs.declared.code.Place.TheVariants.{Reg}
+use Rattle.tta_lir.specs.declared.code.Place.{Place as RPlace}
+use Rattle.tta_lir.specs.declared.code.Place.TheVariants.{Reg}
 use Rattle.tta_select.specs.Select.{call_of, hub_at, through_hub, constant, carry, value, merged, brings_old, address_slot, items_of_step, items_of_exit, items_of_block, list_of}
 use Rattle.tta_select.specs.Ground.{IsServed}
 use Rattle.tta_select.specs.Relation.{is_place_of}

@@ -7,8 +7,8 @@ use Rattle.tta_select.specs.Cited.{Units, Ldf, Stf, Op, Machine, Choice, offered
 use Rattle.tta_moves.specs.Meaning.{Exit, Next}
 use Rattle.tta_list.specs.Legs as legs
 use Rattle.tta_moves.proofs.Places.{either}
-use Rattle.tta_rcode.specs.declared.code.RStep.TheVariants.{Take}
-use Rattle.tta_rcode.specs.Meaning.{value}
+use Rattle.tta_lir.specs.declared.code.RStep.TheVariants.{Take}
+use Rattle.tta_lir.specs.Meaning.{value}
 use Rattle.tta_select.specs.Select.{home_pair, items_of_step, items_of_exit, items_of_block, list_of}
 use Rattle.tta_select.specs.Ground.{IsGround, IsServed}
 use Rattle.tta_select.specs.Relation.{Matches}

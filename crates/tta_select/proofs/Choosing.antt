@@ -5,9 +5,9 @@ use Rattle.std.proofs.lemmas.Bool.Decides.{nat_tests}
 use Rattle.tta_select.specs.Cited.{Units, GuardRef, Ldf, Stf, Machine, KeptReg, KeptOperand, kept, same_place, width_of, Choice, Item, Held, Frame, RSrc, State, Kept, Plain, Return, found, plain, operand, puts_at}
 use Rattle.tta_moves.specs.Meaning.{Next}
 use Rattle.tta_moves.proofs.Places.{either, same_self, kept_there, kept_elsewhere}
-use Rattle.tta_rcode.specs.declared.code.Place.{Place as RPlace}
-use Rattle.tta_rcode.specs.declared.code.Place.TheVariants.{Reg}
-use Rattle.tta_rcode.specs.declared.code.RSrc.TheVariants as rsrc
+use Rattle.tta_lir.specs.declared.code.Place.{Place as RPlace}
+use Rattle.tta_lir.specs.declared.code.Place.TheVariants.{Reg}
+use Rattle.tta_lir.specs.declared.code.RSrc.TheVariants as rsrc
 use Rattle.tta_select.specs.Select.{call_of, trigger_at, hub_at, from_hub, home_at, from_home, value, address_slot, goes, merged, brings_old, choose, reaches}
 use Rattle.tta_select.specs.Ground.{IsGround, IsServed, home_place}
 use Rattle.tta_select.specs.Relation.{slot_word, Matches, is_place_of, is_src_of}

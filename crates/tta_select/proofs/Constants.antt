@@ -2,8 +2,8 @@
 use Rattle.std.proofs.Common.{◌≡◌, ℕ, List, [], ◌∷◌, refl, ap, ◌∙◌, map}
 use Rattle.tta_select.specs.Cited.{Call, Machine, BlockList, Port, RBlock, Rir, one_block}
 use Rattle.tta_arch.specs.declared.ends.Source.TheVariants as source
-use Rattle.tta_rcode.specs.declared.code.RSrc.TheVariants as rsrc
-use Rattle.tta_rcode.specs.declared.code.RStep.TheVariants as rstep
+use Rattle.tta_lir.specs.declared.code.RSrc.TheVariants as rsrc
+use Rattle.tta_lir.specs.declared.code.RStep.TheVariants as rstep
 use Rattle.tta_select.specs.Select.{goes, trigger_at}
 use Rattle.tta_select.specs.Direct.{out_of, direct_items, direct_block, direct_lists, constants_out, direct_list}
 

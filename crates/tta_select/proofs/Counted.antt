@@ -7,12 +7,12 @@ use Rattle.tta_select.specs.Cited.{Units, GuardRef, Dest, Machine, Target, Imm, 
 use Rattle.tta_arch.specs.declared.parts.Template.{Template as Field}
 use Rattle.tta_arch.specs.Effects.{Reg}
 use Rattle.tta_moves.proofs.Places.{either}
-use Rattle.tta_rcode.specs.declared.code.Place.{Place as RPlace}
-use Rattle.tta_rcode.specs.declared.code.Place.TheVariants as place
-use Rattle.tta_rcode.specs.declared.code.RSrc.TheVariants as rsrc
-use Rattle.tta_rcode.specs.declared.code.RStep.TheVariants.{Take}
-use Rattle.tta_rcode.specs.declared.code.Exit.{Exit as RExit}
-use Rattle.tta_rcode.specs.declared.code.Exit.TheVariants as rexit
+use Rattle.tta_lir.specs.declared.code.Place.{Place as RPlace}
+use Rattle.tta_lir.specs.declared.code.Place.TheVariants as place
+use Rattle.tta_lir.specs.declared.code.RSrc.TheVariants as rsrc
+use Rattle.tta_lir.specs.declared.code.RStep.TheVariants.{Take}
+use Rattle.tta_lir.specs.declared.code.Exit.{Exit as RExit}
+use Rattle.tta_lir.specs.declared.code.Exit.TheVariants as rexit
 use Rattle.tta_select.specs.Select.{goes, hub_at, from_hub, home_at, long_for, through_hub, long_hub, long_way, constant, carry, items_of_block}
 use Rattle.tta_select.specs.Ground.{IsGround}
 use Rattle.tta_select.specs.Counts.{targets, is_home}

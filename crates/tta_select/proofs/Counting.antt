@@ -9,12 +9,12 @@ use Rattle.tta_arch.specs.declared.ends.Source.TheVariants as source
 use Rattle.tta_arch.specs.declared.ends.Dest.TheVariants as dest
 use Rattle.tta_arch.specs.declared.parts.Op.TheVariants.{Take as TakeIn}
 use Rattle.tta_moves.specs.declared.items.LongValue.TheVariants as long
-use Rattle.tta_rcode.specs.declared.code.Place.{Place as RPlace}
-use Rattle.tta_rcode.specs.declared.code.Place.TheVariants.{Reg}
-use Rattle.tta_rcode.specs.declared.code.RSrc.TheVariants as rsrc
-use Rattle.tta_rcode.specs.declared.code.RStep.TheVariants.{Take}
-use Rattle.tta_rcode.specs.declared.code.Exit.{Exit as RExit}
-use Rattle.tta_rcode.specs.declared.code.Exit.TheVariants as rexit
+use Rattle.tta_lir.specs.declared.code.Place.{Place as RPlace}
+use Rattle.tta_lir.specs.declared.code.Place.TheVariants.{Reg}
+use Rattle.tta_lir.specs.declared.code.RSrc.TheVariants as rsrc
+use Rattle.tta_lir.specs.declared.code.RStep.TheVariants.{Take}
+use Rattle.tta_lir.specs.declared.code.Exit.{Exit as RExit}
+use Rattle.tta_lir.specs.declared.code.Exit.TheVariants as rexit
 use Rattle.tta_select.specs.Select.{goes, call_of, operand_at, trigger_at, shown_at, hub_at, from_hub, home_at, from_home, guard_at, constant, carry, fetch, value, reaches, operate, address_slot, result, merged, brings_old, choose, condition, guard_of_rel, test_op, items_of_step, items_of_exit, items_of_block}
 
 module _ (m : Machine) (c : Choice) (u : Units) (p : Dest → ℕ) (kc kr km : ℕ) where

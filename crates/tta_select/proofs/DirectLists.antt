@@ -9,8 +9,8 @@ use Rattle.std.proofs.lemmas.List.{length-map}
 use Rattle.std.proofs.lemmas.List.Sums.{sum_by-cons}
 use Rattle.tta_select.specs.Cited.{Units, UnitOp, Op, Out, Machine, target_of, op_at, IsMachine, same_op, is_frame_op, Choice, Call, hub_of, Port, Item, BlockList, source_of, target_of_item, has_slot, control_is_last, is_list, none_after, is_detour, RBlock, Rir, asks_rstep, weight_step, one_block}
 use Rattle.tta_arch.specs.declared.ends.Source.TheVariants as source
-use Rattle.tta_rcode.specs.declared.code.RSrc.TheVariants as rsrc
-use Rattle.tta_rcode.specs.declared.code.RStep.TheVariants as rstep
+use Rattle.tta_lir.specs.declared.code.RSrc.TheVariants as rsrc
+use Rattle.tta_lir.specs.declared.code.RStep.TheVariants as rstep
 use Rattle.tta_select.specs.Counts.{targets, is_start_of, is_frame_trigger, is_home, is_need}
 use Rattle.tta_select.specs.Lists.{is_closed}
 use Rattle.tta_select.specs.Select.{goes, trigger_at}

@@ -9,12 +9,12 @@ use Rattle.tta_arch.specs.declared.ends.Source.TheVariants as source
 use Rattle.tta_arch.specs.declared.ends.Dest.TheVariants as dest
 use Rattle.tta_arch.specs.declared.parts.Op.TheVariants.{Take as TakeIn}
 use Rattle.tta_moves.specs.declared.items.LongValue.TheVariants as long
-use Rattle.tta_rcode.specs.declared.code.Place.{Place as RPlace}
-use Rattle.tta_rcode.specs.declared.code.Place.TheVariants.{Reg}
-use Rattle.tta_rcode.specs.declared.code.RSrc.TheVariants as rsrc
-use Rattle.tta_rcode.specs.declared.code.RStep.TheVariants.{Take}
-use Rattle.tta_rcode.specs.declared.code.Exit.{Exit as RExit}
-use Rattle.tta_rcode.specs.declared.code.Exit.TheVariants as rexit
+use Rattle.tta_lir.specs.declared.code.Place.{Place as RPlace}
+use Rattle.tta_lir.specs.declared.code.Place.TheVariants.{Reg}
+use Rattle.tta_lir.specs.declared.code.RSrc.TheVariants as rsrc
+use Rattle.tta_lir.specs.declared.code.RStep.TheVariants.{Take}
+use Rattle.tta_lir.specs.declared.code.Exit.{Exit as RExit}
+use Rattle.tta_lir.specs.declared.code.Exit.TheVariants as rexit
 use Rattle.tta_select.specs.Select.{call_of, operand_at, trigger_at, shown_at, hub_at, from_hub, home_at, from_home, guard_at, long_for, constant, carry, fetch, value, reaches, operate, address_slot, result, merged, brings_old, choose, condition, guard_of_rel, is_inverted, test_op, items_of_step, items_of_exit}
 use Rattle.tta_select.specs.Relation.{is_place_of, is_src_of}
 use Rattle.tta_select.specs.Needs.{op_of_step, op_of_exit, is_offered, is_step_of, is_exit_of, fits_step, fits_exit, word_src, word_step, word_exit}

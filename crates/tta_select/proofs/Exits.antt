@@ -9,9 +9,9 @@ use Rattle.tta_arch.specs.declared.ends.Dest.TheVariants as dest
 use Rattle.tta_moves.specs.declared.items.LongValue.TheVariants as long
 use Rattle.tta_moves.specs.Meaning.{Exit, Next}
 use Rattle.tta_list.proofs.Tests.{some_same}
-use Rattle.tta_rcode.specs.declared.code.Exit.{Exit as RExit}
-use Rattle.tta_rcode.specs.declared.code.Exit.TheVariants as rexit
-use Rattle.tta_rcode.specs.Meaning.{value as word_of_operand}
+use Rattle.tta_lir.specs.declared.code.Exit.{Exit as RExit}
+use Rattle.tta_lir.specs.declared.code.Exit.TheVariants as rexit
+use Rattle.tta_lir.specs.Meaning.{value as word_of_operand}
 use Rattle.tta_select.specs.Select.{guard_of_rel, constant, fetch, condition, test_op, is_inverted, items_of_exit}
 use Rattle.tta_select.specs.Ground.{IsGround, IsServed}
 use Rattle.tta_select.specs.Relation.{slot_word, Matches, is_src_of}

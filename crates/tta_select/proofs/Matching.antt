@@ -6,7 +6,7 @@ use Rattle.tta_select.specs.Cited.{Machine, KeptReg, KeptRa, kept, same_place, w
 use Rattle.tta_arch.specs.Effects.{Place}
 use Rattle.tta_moves.specs.Meaning.{Exit}
 use Rattle.tta_moves.proofs.Places.{either, same_self, kept_there, kept_elsewhere}
-use Rattle.tta_rcode.specs.declared.code.Place.TheVariants.{Reg}
+use Rattle.tta_lir.specs.declared.code.Place.TheVariants.{Reg}
 use Rattle.tta_select.specs.Select.{home_pair}
 use Rattle.tta_select.specs.Ground.{IsGround, home_place}
 use Rattle.tta_select.specs.Relation.{slot_word, Matches}

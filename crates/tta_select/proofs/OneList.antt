@@ -6,8 +6,8 @@ use Rattle.tta_arch.specs.declared.ends.Source.TheVariants as source
 use Rattle.tta_arch.specs.declared.ends.Dest.TheVariants as dest
 use Rattle.tta_program.specs.Sequential as program
 use Rattle.tta_list.specs.Legs as legs
-use Rattle.tta_rcode.specs.declared.code.RSrc.TheVariants as rsrc
-use Rattle.tta_rcode.specs.declared.code.RStep.TheVariants as rstep
+use Rattle.tta_lir.specs.declared.code.RSrc.TheVariants as rsrc
+use Rattle.tta_lir.specs.declared.code.RStep.TheVariants as rstep
 use Rattle.tta_select.specs.Direct.{constants_out, direct_list}
 use Rattle.tta_select.specs.Keeps as select
 use Rattle.tta_select.proofs.OutputJoins.{CanOutput, can_output}

@@ -8,8 +8,8 @@ use Rattle.tta_arch.specs.Effects.{Place}
 use Rattle.tta_moves.specs.declared.items.LongValue.TheVariants as long
 use Rattle.tta_moves.specs.Meaning.{Exit, Next}
 use Rattle.tta_moves.proofs.Places.{same_self, kept_there, kept_elsewhere}
-use Rattle.tta_rcode.specs.declared.code.Place.{Place as RPlace}
-use Rattle.tta_rcode.specs.declared.code.Place.TheVariants.{Reg}
+use Rattle.tta_lir.specs.declared.code.Place.{Place as RPlace}
+use Rattle.tta_lir.specs.declared.code.Place.TheVariants.{Reg}
 use Rattle.tta_select.specs.Select.{call_of, operand_at, trigger_at, shown_at, home_at, carry, value, operate, address_slot, result}
 use Rattle.tta_select.specs.Ground.{IsGround, IsServed, home_place}
 use Rattle.tta_select.specs.Relation.{slot_word, Matches, is_place_of, is_src_of}

@@ -5,7 +5,7 @@ use Rattle.tta_arch.specs.declared.ends.Source.TheVariants as source
 use Rattle.tta_arch.specs.declared.ends.Dest.TheVariants as dest
 use Rattle.tta_arch.proofs.Samples.{three_buses}
 use Rattle.tta_moves.specs.declared.items.LongValue.TheVariants as long
-use Rattle.tta_rcode.specs.declared.code.RSrc.TheVariants as rsrc
+use Rattle.tta_lir.specs.declared.code.RSrc.TheVariants as rsrc
 use Rattle.tta_select.specs.Select.{constant, value}
 
 -- with the second condition's guards in place of the first one's inverted

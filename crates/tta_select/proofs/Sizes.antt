@@ -5,12 +5,12 @@ use Rattle.std.specs.List.{list_all, sum_by}
 use Rattle.std.proofs.lemmas.List.Sums.{sum_by-cons}
 use Rattle.tta_select.specs.Cited.{Units, GuardRef, Dest, Machine, Choice, ItemSource, LongValue, Item, Move, source_of_long, joined, RSrc, RStep, Copy, Apply, Load, Store, Put, When, SaveRa, RBlock, Rir, weight_step, weight_exit, weight_block, weight}
 use Rattle.tta_arch.specs.declared.parts.Template.{Template as Field}
-use Rattle.tta_rcode.specs.declared.code.Place.{Place as RPlace}
-use Rattle.tta_rcode.specs.declared.code.Place.TheVariants as place
-use Rattle.tta_rcode.specs.declared.code.RSrc.TheVariants as rsrc
-use Rattle.tta_rcode.specs.declared.code.RStep.TheVariants.{Take}
-use Rattle.tta_rcode.specs.declared.code.Exit.{Exit as RExit}
-use Rattle.tta_rcode.specs.declared.code.Exit.TheVariants as rexit
+use Rattle.tta_lir.specs.declared.code.Place.{Place as RPlace}
+use Rattle.tta_lir.specs.declared.code.Place.TheVariants as place
+use Rattle.tta_lir.specs.declared.code.RSrc.TheVariants as rsrc
+use Rattle.tta_lir.specs.declared.code.RStep.TheVariants.{Take}
+use Rattle.tta_lir.specs.declared.code.Exit.{Exit as RExit}
+use Rattle.tta_lir.specs.declared.code.Exit.TheVariants as rexit
 use Rattle.tta_select.specs.Select.{goes, hub_at, from_hub, long_for, through_hub, long_hub, long_way, constant, carry, items_of_block, list_of, selected}
 use Rattle.tta_select.specs.Counts.{items_in}
 use Rattle.tta_select.proofs.Counting.{step_cost, exit_cost, src_cost, result_cost, block_counts}

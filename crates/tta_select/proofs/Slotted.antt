@@ -8,8 +8,8 @@ use Rattle.std.proofs.lemmas.Bool.{or_right}
 use Rattle.tta_select.specs.Cited.{Units, GuardRef, Dest, Ldf, Stf, Machine, Choice, offered, ItemSource, LongValue, Item, Move, Long, source_of_long, joined, fills, has_slot, Frame}
 use Rattle.tta_arch.specs.declared.parts.Template.{Template as Field}
 use Rattle.tta_moves.specs.declared.items.LongValue.TheVariants as long
-use Rattle.tta_rcode.specs.declared.code.Place.{Place as RPlace}
-use Rattle.tta_rcode.specs.declared.code.Place.TheVariants.{Reg}
+use Rattle.tta_lir.specs.declared.code.Place.{Place as RPlace}
+use Rattle.tta_lir.specs.declared.code.Place.TheVariants.{Reg}
 use Rattle.tta_select.specs.Select.{goes, filled, call_of, trigger_at, hub_at, from_hub, long_for, through_hub, long_hub, long_way, constant, carry, value, address_slot, merged, brings_old}
 use Rattle.tta_select.specs.Relation.{is_place_of}
 use Rattle.tta_select.specs.Reaches.{guard_by, HasJoins}

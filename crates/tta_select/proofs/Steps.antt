@@ -9,11 +9,11 @@ use Rattle.tta_arch.specs.declared.ends.Source.TheVariants as source
 use Rattle.tta_arch.specs.declared.parts.Op.TheVariants.{Take as TakeIn}
 use Rattle.tta_moves.specs.declared.items.LongValue.TheVariants as long
 use Rattle.tta_moves.specs.Meaning.{Next}
-use Rattle.tta_rcode.specs.declared.code.Place.{Place as RPlace}
-use Rattle.tta_rcode.specs.declared.code.Place.TheVariants.{Reg}
-use Rattle.tta_rcode.specs.declared.code.RSrc.TheVariants as rsrc
-use Rattle.tta_rcode.specs.declared.code.RStep.TheVariants.{Take}
-use Rattle.tta_rcode.specs.Meaning.{value as word_of_operand}
+use Rattle.tta_lir.specs.declared.code.Place.{Place as RPlace}
+use Rattle.tta_lir.specs.declared.code.Place.TheVariants.{Reg}
+use Rattle.tta_lir.specs.declared.code.RSrc.TheVariants as rsrc
+use Rattle.tta_lir.specs.declared.code.RStep.TheVariants.{Take}
+use Rattle.tta_lir.specs.Meaning.{value as word_of_operand}
 use Rattle.tta_select.specs.Select.{call_of, operand_at, trigger_at, home_at, constant, carry, value, operate, address_slot, result, condition, guard_of_rel, choose, test_op, items_of_step, is_inverted}
 use Rattle.tta_select.specs.Ground.{IsGround, IsServed, home_place}
 use Rattle.tta_select.specs.Relation.{Matches, is_place_of, is_src_of}

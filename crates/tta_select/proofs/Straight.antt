@@ -12,9 +12,9 @@ use Rattle.tta_arch.specs.declared.ends.Dest.TheVariants as dest
 use Rattle.tta_arch.specs.Effects.{Place}
 use Rattle.tta_moves.specs.declared.items.LongValue.TheVariants as long
 use Rattle.tta_moves.proofs.Places.{same_self}
-use Rattle.tta_rcode.specs.declared.code.Place.{Place as RPlace}
-use Rattle.tta_rcode.specs.declared.code.Place.TheVariants.{Reg}
-use Rattle.tta_rcode.specs.declared.code.RSrc.TheVariants as rsrc
+use Rattle.tta_lir.specs.declared.code.Place.{Place as RPlace}
+use Rattle.tta_lir.specs.declared.code.Place.TheVariants.{Reg}
+use Rattle.tta_lir.specs.declared.code.RSrc.TheVariants as rsrc
 use Rattle.tta_select.specs.Select.{goes, filled, call_of, operand_at, trigger_at, shown_at, hub_at, from_hub, home_at, from_home, through_hub, constant, carry, value, address_slot, merged, brings_old}
 use Rattle.tta_select.specs.Relation.{is_place_of, is_src_of}
 use Rattle.tta_select.specs.Needs.{word_src}

@@ -7,12 +7,12 @@ use Rattle.std.proofs.lemmas.Bool.Decides.{nat_tests}
 use Rattle.std.proofs.lemmas.Option.{slice_get_within}
 use Rattle.tta_select.specs.Cited.{Units, named, Op, Ldw, Stw, Ldf, Stf, Out, Set, Machine, target_of, same_op, is_frame_op, Choice, offered, Rel, RSrc, RStep, Copy, Apply, Load, Store, Put, When, SaveRa, RBlock, names_place, names_src, names_step, names_exit, names, Need, Loads, Stores, Puts, Takes, Named, asks, asks_rstep, asks_exit, counts_test, test_name, StandsOver}
 use Rattle.tta_arch.specs.declared.parts.Op.TheVariants.{Take as TakeIn}
-use Rattle.tta_rcode.specs.declared.code.Place.{Place as RPlace}
-use Rattle.tta_rcode.specs.declared.code.Place.TheVariants as place
-use Rattle.tta_rcode.specs.declared.code.RSrc.TheVariants as rsrc
-use Rattle.tta_rcode.specs.declared.code.RStep.TheVariants.{Take}
-use Rattle.tta_rcode.specs.declared.code.Exit.{Exit as RExit}
-use Rattle.tta_rcode.specs.declared.code.Exit.TheVariants as rexit
+use Rattle.tta_lir.specs.declared.code.Place.{Place as RPlace}
+use Rattle.tta_lir.specs.declared.code.Place.TheVariants as place
+use Rattle.tta_lir.specs.declared.code.RSrc.TheVariants as rsrc
+use Rattle.tta_lir.specs.declared.code.RStep.TheVariants.{Take}
+use Rattle.tta_lir.specs.declared.code.Exit.{Exit as RExit}
+use Rattle.tta_lir.specs.declared.code.Exit.TheVariants as rexit
 use Rattle.tta_select.specs.Select.{call_of, trigger_at, test_op, items_of_block}
 use Rattle.tta_select.specs.Ground.{IsServed}
 use Rattle.tta_select.specs.Needs.{op_of_step, op_of_exit, is_offered}

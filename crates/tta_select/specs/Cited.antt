@@ -36,15 +36,15 @@ pub use Rattle.tta_program.specs.Over.{test_name}
 pub use Rattle.tta_program.specs.Sequential.{Halted, Outcome, Running, Waiting, holds, is_odd}
 pub use Rattle.tta_program.specs.declared.operand.Rel.{Rel}
 pub use Rattle.tta_program.specs.declared.operand.Rel.TheVariants.{Eq, Ge, Geu, Lt, Ltu, Ne}
-pub use Rattle.tta_rcode.specs.Counts.{Loads, Named, Need, Puts, Stores, Takes, asks, asks_exit, asks_rstep, assigns_block, assigns_place, assigns_rstep, counts_test, names, names_exit, names_place, names_src, names_step, weight, weight_block, weight_exit, weight_step}
-pub use Rattle.tta_rcode.specs.Direct.{one_block}
-pub use Rattle.tta_rcode.specs.Meaning.{Kept, Plain, Return, State, can_leave, carries, falls, falls_through, found, goes_on, is_ready, is_set, leaves, lost, operand, plain, puts_at, return_of, rrun, start, stay, steps_of, takes, to_block, transfers, unset, walk}
-unfoldable pub use Rattle.tta_rcode.specs.Meaning.{leg, step}
-pub use Rattle.tta_rcode.specs.declared.code.Exit.TheVariants.{Back, Goto, Halt, If, Invoke}
-pub use Rattle.tta_rcode.specs.declared.code.Place.TheVariants.{Frame}
-pub use Rattle.tta_rcode.specs.declared.code.RBlock.{RBlock}
-pub use Rattle.tta_rcode.specs.declared.code.RSrc.{RSrc}
-pub use Rattle.tta_rcode.specs.declared.code.RSrc.TheVariants.{At}
-pub use Rattle.tta_rcode.specs.declared.code.RStep.{RStep}
-pub use Rattle.tta_rcode.specs.declared.code.RStep.TheVariants.{Apply, Copy, Load, Put, SaveRa, Store, When}
-pub use Rattle.tta_rcode.specs.declared.code.Rir.{Rir}
+pub use Rattle.tta_lir.specs.Counts.{Loads, Named, Need, Puts, Stores, Takes, asks, asks_exit, asks_rstep, assigns_block, assigns_place, assigns_rstep, counts_test, names, names_exit, names_place, names_src, names_step, weight, weight_block, weight_exit, weight_step}
+pub use Rattle.tta_lir.specs.Direct.{one_block}
+pub use Rattle.tta_lir.specs.Meaning.{Kept, Plain, Return, State, can_leave, carries, falls, falls_through, found, goes_on, is_ready, is_set, leaves, lost, operand, plain, puts_at, return_of, rrun, start, stay, steps_of, takes, to_block, transfers, unset, walk}
+unfoldable pub use Rattle.tta_lir.specs.Meaning.{leg, step}
+pub use Rattle.tta_lir.specs.declared.code.Exit.TheVariants.{Back, Goto, Halt, If, Invoke}
+pub use Rattle.tta_lir.specs.declared.code.Place.TheVariants.{Frame}
+pub use Rattle.tta_lir.specs.declared.code.RBlock.{RBlock}
+pub use Rattle.tta_lir.specs.declared.code.RSrc.{RSrc}
+pub use Rattle.tta_lir.specs.declared.code.RSrc.TheVariants.{At}
+pub use Rattle.tta_lir.specs.declared.code.RStep.{RStep}
+pub use Rattle.tta_lir.specs.declared.code.RStep.TheVariants.{Apply, Copy, Load, Put, SaveRa, Store, When}
+pub use Rattle.tta_lir.specs.declared.code.Rir.{Rir}

@@ -5,7 +5,7 @@ use Rattle.std.specs.List.{flat_map}
 use Rattle.tta_select.specs.Cited.{Out, Machine, Call, anywhere, Port, Item, BlockList, joined, RStep, Put, RBlock, Rir}
 use Rattle.tta_arch.specs.declared.ends.Source.TheVariants as source
 use Rattle.tta_arch.specs.declared.ends.Dest.TheVariants as dest
-use Rattle.tta_rcode.specs.declared.code.RSrc.TheVariants as rsrc
+use Rattle.tta_lir.specs.declared.code.RSrc.TheVariants as rsrc
 use Rattle.tta_select.specs.Select.{goes, trigger_at, no_call}
 
 -- the operation that outputs words

@@ -4,10 +4,10 @@ use Rattle.std.specs.Option.{option_map_or}
 use Rattle.std.specs.List.{list_all}
 use Rattle.tta_select.specs.Cited.{Units, Op, Ldw, Stw, Out, Set, Machine, Choice, offered, RSrc, RStep, Copy, Apply, Load, Store, Put, When, SaveRa, Goto, If, Invoke, Back, Halt, RBlock}
 use Rattle.tta_arch.specs.declared.parts.Op.TheVariants.{Take as TakeIn}
-use Rattle.tta_rcode.specs.declared.code.RSrc.TheVariants as rsrc
-use Rattle.tta_rcode.specs.declared.code.RStep.TheVariants.{Take}
-use Rattle.tta_rcode.specs.declared.code.Exit.{Exit}
-use Rattle.tta_rcode.specs.declared.code.Exit.TheVariants.{Next}
+use Rattle.tta_lir.specs.declared.code.RSrc.TheVariants as rsrc
+use Rattle.tta_lir.specs.declared.code.RStep.TheVariants.{Take}
+use Rattle.tta_lir.specs.declared.code.Exit.{Exit}
+use Rattle.tta_lir.specs.declared.code.Exit.TheVariants.{Next}
 use Rattle.tta_select.specs.Select.{test_op}
 use Rattle.tta_select.specs.Ground.{IsServed}
 use Rattle.tta_select.specs.Relation.{is_place_of, is_src_of}

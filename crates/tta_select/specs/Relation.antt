@@ -2,9 +2,9 @@
 use Rattle.std.specs.Prelude.{◌≡◌, ℕ, ◌<◌, Bool, true, nat_lt, List, length, Option, Some, None, slice_index}
 use Rattle.tta_select.specs.Cited.{Machine, KeptRa, kept, Choice, Held, Frame, RSrc, State, Kept, Plain, Return, found}
 use Rattle.tta_moves.specs.Meaning.{Exit}
-use Rattle.tta_rcode.specs.declared.code.Place.{Place}
-use Rattle.tta_rcode.specs.declared.code.Place.TheVariants.{Reg}
-use Rattle.tta_rcode.specs.declared.code.RSrc.TheVariants as rsrc
+use Rattle.tta_lir.specs.declared.code.Place.{Place}
+use Rattle.tta_lir.specs.declared.code.Place.TheVariants.{Reg}
+use Rattle.tta_lir.specs.declared.code.RSrc.TheVariants as rsrc
 use Rattle.tta_select.specs.Ground.{home_place}
 
 -- the word of the frame space that stands for what a slot keeps: a block's number is the block's word there

@@ -8,12 +8,12 @@ use Rattle.tta_arch.specs.declared.parts.Op.TheVariants.{Take}
 use Rattle.tta_arch.specs.declared.ends.Source.TheVariants as source
 use Rattle.tta_arch.specs.declared.ends.Dest.TheVariants as dest
 use Rattle.tta_moves.specs.declared.items.LongValue.TheVariants as long
-use Rattle.tta_rcode.specs.declared.code.Place.{Place}
-use Rattle.tta_rcode.specs.declared.code.Place.TheVariants as place
-use Rattle.tta_rcode.specs.declared.code.RSrc.TheVariants as rsrc
-use Rattle.tta_rcode.specs.declared.code.RStep.TheVariants.{Take as TakeIn}
-use Rattle.tta_rcode.specs.declared.code.Exit.{Exit}
-use Rattle.tta_rcode.specs.declared.code.Exit.TheVariants.{Next}
+use Rattle.tta_lir.specs.declared.code.Place.{Place}
+use Rattle.tta_lir.specs.declared.code.Place.TheVariants as place
+use Rattle.tta_lir.specs.declared.code.RSrc.TheVariants as rsrc
+use Rattle.tta_lir.specs.declared.code.RStep.TheVariants.{Take as TakeIn}
+use Rattle.tta_lir.specs.declared.code.Exit.{Exit}
+use Rattle.tta_lir.specs.declared.code.Exit.TheVariants.{Next}
 
 -- ---- what a condition needs
 

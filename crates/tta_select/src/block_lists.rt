@@ -15,10 +15,10 @@ use crate::target::SelectionTarget;
 use std::alloc::{AllocError, Global};
 use tta_arch::{Machine, Op};
 use tta_connect::{Choice, Net};
+use tta_lir::{RBlock, Rir};
 use tta_list::Items;
 use tta_moves::{BlockList, Item};
 use tta_ops::UnitSet;
-use tta_rcode::{RBlock, Rir};
 
 /// A home register by its number, and register 0 of file 0 where there is none.
 fn home_or_first(homes: &[(u8, u8)], k: u32) -> (u8, u8)

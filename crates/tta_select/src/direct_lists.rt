@@ -3,7 +3,7 @@
 ghost use Rattle.std.specs.Prelude.{◌≡◌, ◌++◌, ◌∷◌, [], IfOk};
 ghost use Rattle.std.specs.Prelude.{ℕ, List, map};
 ghost use Rattle.std.specs.List.{flat_map};
-ghost use Rattle.tta_rcode.specs.Direct.{one_block};
+ghost use Rattle.tta_lir.specs.Direct.{one_block};
 ghost use Rattle.tta_select.specs.Direct.{out_of, direct_step};
 ghost use Rattle.tta_select.specs.Direct.{direct_block, direct_lists, direct_list};
 ghost use Rattle.tta_select.specs.Statement.{IsDirect, IsDirectSelection};
@@ -14,9 +14,9 @@ use crate::putting::put_move;
 use std::alloc::{AllocError, Global};
 use tta_arch::{Dest, Machine, Op, Source};
 use tta_connect::{Call, anywhere};
+use tta_lir::{RBlock, RSrc, RStep, Rir};
 use tta_list::Items;
 use tta_moves::{BlockList, Item, ItemSource};
-use tta_rcode::{RBlock, RSrc, RStep, Rir};
 
 /// The operation that outputs words.
 fn out_of(m: &Machine) -> Call

@@ -13,10 +13,10 @@ use crate::stepping::{apply, condition, copy_to_slot, guard_of, load, save_ra, s
 use crate::target::SelectionTarget;
 use std::alloc::AllocError;
 use tta_arch::Op;
+use tta_lir::{Place, RStep};
 use tta_list::Items;
 use tta_moves::Item;
 use tta_ops::UnitSet;
-use tta_rcode::{Place, RStep};
 
 /// Puts the items of a step at the end.
 fn put_step(

@@ -11,10 +11,10 @@ use crate::stepping::{condition, guard_of};
 use crate::target::SelectionTarget;
 use std::alloc::AllocError;
 use tta_arch::Dest;
+use tta_lir::Exit;
 use tta_list::Items;
 use tta_moves::{Item, LongValue};
 use tta_ops::UnitSet;
-use tta_rcode::Exit;
 
 /// Whether a block ends without a condition.
 fn has_no_condition(e: Exit) -> bool

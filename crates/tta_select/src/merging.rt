@@ -12,9 +12,9 @@ use crate::putting::{PASSING, from_hub, hub_at, long_for, put_move};
 use crate::target::SelectionTarget;
 use std::alloc::AllocError;
 use tta_arch::{Dest, GuardRef, Source};
+use tta_lir::{Place, RSrc};
 use tta_list::Items;
 use tta_moves::{Item, ItemSource, is_joined};
-use tta_rcode::{Place, RSrc};
 
 /// Puts the way of a place's own word to the hub's register for merging at the end.
 fn put_old(items: &mut Items<Item>, on: &SelectionTarget<'_>, d: Place) -> Result<(), AllocError>

@@ -10,9 +10,9 @@ use crate::target::SelectionTarget;
 use std::alloc::AllocError;
 use tta_arch::{Dest, GuardRef, Source};
 use tta_connect::{Call, Choice};
+use tta_lir::{Place, RSrc};
 use tta_list::Items;
 use tta_moves::{Item, ItemSource, LongValue};
-use tta_rcode::{Place, RSrc};
 
 /// The operand port of the unit that is called.
 pub fn operand_at(f: Call) -> Dest

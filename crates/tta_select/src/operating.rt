@@ -11,9 +11,9 @@ use crate::putting::{carry, constant, from_hub, put_move};
 use crate::target::SelectionTarget;
 use std::alloc::AllocError;
 use tta_connect::Call;
+use tta_lir::{Place, RSrc};
 use tta_list::Items;
 use tta_moves::{Item, LongValue};
-use tta_rcode::{Place, RSrc};
 
 /// The hub's register in which a `when` makes its value.
 pub const MERGING: u8 = 1;

@@ -16,11 +16,11 @@ use crate::target::SelectionTarget;
 use std::alloc::AllocError;
 use tta_arch::{Dest, GuardRef, Source};
 use tta_connect::{Call, Choice};
+use tta_lir::{Place, RSrc};
 use tta_list::Items;
 use tta_moves::{Item, ItemSource, LongValue};
 use tta_ops::UnitSet;
 use tta_program::Rel;
-use tta_rcode::{Place, RSrc};
 
 /// Whether a condition holds where its operation does not.
 fn is_inverted(rel: Rel) -> bool

@@ -5,10 +5,10 @@ use Rattle.std.proofs.Common.{List, [], ◌∷◌}
 use Rattle.tta_moves.specs.declared.items.BlockList.{BlockList}
 use Rattle.tta_moves.specs.declared.items.Placed.{Placed}
 use Rattle.tta_sched.proofs.Ones.{serial_respects}
-use Rattle.tta_compose.specs.Direct.{list_of_direct}
-use Rattle.tta_compose.specs.Linking.{AreRespected}
-use Rattle.tta_compose.proofs.Linking.{lists_link, lists_agree}
-use Rattle.tta_compose.proofs.Directly.{direct_links, direct_agrees}
+use Rattle.tta_compiler_laws.specs.Direct.{list_of_direct}
+use Rattle.tta_compiler_laws.specs.Linking.{AreRespected}
+use Rattle.tta_compiler_laws.proofs.Linking.{lists_link, lists_agree}
+use Rattle.tta_compiler_laws.proofs.Directly.{direct_links, direct_agrees}
 use Rattle.tta_serial.specs.Laws.{AreSerial, SerialAgrees, SerialDirectAgrees}
 
 -- serial placements respect their lists

@@ -9,7 +9,7 @@ use Rattle.tta_program.specs.Program.{Program, data_of}
 use Rattle.tta_program.specs.Rules.{IsProgram}
 use Rattle.tta_code.specs.Legal.{IsLegalCode}
 use Rattle.tta_code.specs.Whole.{Whole, data_in}
-use Rattle.tta_agree.specs.Agrees.{Agrees}
+use Rattle.tta_refines.specs.Agrees.{Agrees}
 use Rattle.tta_moves.specs.declared.items.BlockList.{BlockList}
 use Rattle.tta_moves.specs.declared.items.Placed.{Placed}
 use Rattle.tta_flow.specs.declared.flow.Block.{Block}
@@ -23,8 +23,8 @@ use Rattle.tta_lower.specs.Law.{IsKnown}
 use Rattle.tta_sched.specs.Serial.{IsSerial}
 use Rattle.tta_link.specs.Linked.{IsLinked}
 use Rattle.tta_link.specs.Blocks.{AreBlocks}
-use Rattle.tta_compose.specs.Compiler.{IsPair, AreStandIns, raw}
-use Rattle.tta_compose.specs.Direct.{is_direct, list_of_direct}
+use Rattle.tta_compiler_laws.specs.Compiler.{IsPair, AreStandIns, raw}
+use Rattle.tta_compiler_laws.specs.Direct.{is_direct, list_of_direct}
 
 -- The linker takes placed blocks, and all legal code that is linked of them, with data that lay what the program's lay, agrees with the
 -- program: from the same words and input it puts out the same words, and halts where the program does.

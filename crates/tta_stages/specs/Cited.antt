@@ -23,7 +23,7 @@ pub use Rattle.tta_build.specs.declared.trail.Ordered.{Ordered}
 pub use Rattle.tta_build.specs.declared.trail.Round.{Round}
 pub use Rattle.tta_build.specs.declared.trail.Rounds.{Rounds}
 pub use Rattle.tta_build.specs.declared.trail.Start.{Start}
-pub use Rattle.tta_build.specs.declared.trail.Trail.{Trail}
+pub use Rattle.tta_build.specs.declared.trail.Derivation.{Derivation}
 pub use Rattle.tta_build.specs.declared.value.Compiled.{Compiled}
 pub use Rattle.tta_code.specs.Legal.{IsLegalCode}
 pub use Rattle.tta_code.specs.declared.code.Code.{Code}
@@ -58,10 +58,10 @@ pub use Rattle.tta_program.specs.Program.{Program}
 pub use Rattle.tta_program.specs.declared.operand.Rel.{Rel}
 pub use Rattle.tta_program.specs.declared.program.Proc.{Proc}
 pub use Rattle.tta_program.specs.declared.step.Step.{Step}
-pub use Rattle.tta_rcode.specs.declared.code.Exit.{Exit}
-pub use Rattle.tta_rcode.specs.declared.code.Place.{Place}
-pub use Rattle.tta_rcode.specs.declared.code.Place.TheVariants.{Frame}
-pub use Rattle.tta_rcode.specs.declared.code.RBlock.{RBlock}
-pub use Rattle.tta_rcode.specs.declared.code.RSrc.{RSrc}
-pub use Rattle.tta_rcode.specs.declared.code.RSrc.TheVariants.{At, Word}
-pub use Rattle.tta_rcode.specs.declared.code.RStep.{RStep}
+pub use Rattle.tta_lir.specs.declared.code.Exit.{Exit}
+pub use Rattle.tta_lir.specs.declared.code.Place.{Place}
+pub use Rattle.tta_lir.specs.declared.code.Place.TheVariants.{Frame}
+pub use Rattle.tta_lir.specs.declared.code.RBlock.{RBlock}
+pub use Rattle.tta_lir.specs.declared.code.RSrc.{RSrc}
+pub use Rattle.tta_lir.specs.declared.code.RSrc.TheVariants.{At, Word}
+pub use Rattle.tta_lir.specs.declared.code.RStep.{RStep}

@@ -2,7 +2,7 @@
 use Rattle.std.specs.Prelude.{ℕ, ◌+◌, List, [], ◌++◌, Option, None, slice_get, length, codes}
 use Rattle.std.specs.Option.{option_map_or}
 use Rattle.std.specs.List.{flat_map, enumerate_from}
-use Rattle.tta_stages.specs.Cited.{Units, GuardRef, Value, Dest, numbers, Machine, Program, Instruction, Item, Move, Long, ItemSource, Port, Address, LongValue, BlockList, Placed, Part, imm_name, place_text, guard_text, move_text, instruction_text, Order, Items, Groups, Passed, Ordered, Round, Rounds, Start, Trail}
+use Rattle.tta_stages.specs.Cited.{Units, GuardRef, Value, Dest, numbers, Machine, Program, Instruction, Item, Move, Long, ItemSource, Port, Address, LongValue, BlockList, Placed, Part, imm_name, place_text, guard_text, move_text, instruction_text, Order, Items, Groups, Passed, Ordered, Round, Rounds, Start, Derivation}
 use Rattle.tta_moves.specs.declared.items.LongValue.TheVariants as long
 use Rattle.tta_stages.specs.Words.{count_text, pairs_text}
 use Rattle.tta_stages.specs.RegisterText.{named_text, range_text}
@@ -82,20 +82,20 @@ module _ (u : Units) (m : Machine) (p : Program) (parts : List Part) (k : ℕ) w
   start_text s = other_text (codes " served") s.served ++ other_text (codes " bound to units") s.bound
 
   -- the lists along a trail
-  unfoldable pub trail_text : Trail → List ℕ
+  unfoldable pub trail_text : Derivation → List ℕ
   trail_text t = start_text t.start ++ rounds_text t.rounds
 
   -- the lists along the trail of the block, if it has one
-  abbrev pub trail_at : List Trail → List ℕ
+  abbrev pub trail_at : List Derivation → List ℕ
   trail_at trails = option_map_or trail_text (slice_get trails k) []
 
   -- the lists of a block, from the selected one
-  unfoldable pub block_lists_text : List Trail → BlockList → List ℕ
+  unfoldable pub block_lists_text : List Derivation → BlockList → List ℕ
   block_lists_text trails list =
       list_text (codes " selected") list ++ (live_text m list ++ trail_at trails)
 
 -- the lists of each block
-abbrev pub lists_text : Units → Machine → Program → List Part → List Trail → List BlockList → List ℕ
+abbrev pub lists_text : Units → Machine → Program → List Part → List Derivation → List BlockList → List ℕ
 lists_text u m p parts trails lists = flat_map (λ x. block_lists_text u m p parts x.0 trails x.1) (enumerate_from 0 lists)
 
 -- ---- code

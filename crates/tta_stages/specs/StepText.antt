@@ -2,8 +2,8 @@
 use Rattle.std.specs.Prelude.{ℕ, List, ◌++◌, codes}
 use Rattle.std.specs.List.{flat_map}
 use Rattle.tta_stages.specs.Cited.{OpId, Units, Set, Machine, Rel, Place, RSrc, RStep, Exit, op_name, rel_name}
-use Rattle.tta_rcode.specs.declared.code.RStep.TheVariants as step
-use Rattle.tta_rcode.specs.declared.code.Exit.TheVariants as exit
+use Rattle.tta_lir.specs.declared.code.RStep.TheVariants as step
+use Rattle.tta_lir.specs.declared.code.Exit.TheVariants as exit
 use Rattle.tta_stages.specs.Words.{count_text, block_name, kept_text, operand_text}
 
 -- ---- parts of a line

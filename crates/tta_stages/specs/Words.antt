@@ -3,7 +3,7 @@ use Rattle.std.specs.Prelude.{ℕ, Bool, if◌then◌else◌, List, [], ◌++◌
 use Rattle.std.specs.Option.{option_map_or}
 use Rattle.std.specs.List.{flat_map}
 use Rattle.tta_stages.specs.Cited.{Machine, Place, Frame, RSrc, At, Word, file_name, place_text}
-use Rattle.tta_rcode.specs.declared.code.Place.TheVariants.{Reg}
+use Rattle.tta_lir.specs.declared.code.Place.TheVariants.{Reg}
 
 -- a number, and what it counts before it
 abbrev pub count_text : (what : List ℕ) → ℕ → List ℕ

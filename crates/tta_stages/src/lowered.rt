@@ -9,9 +9,9 @@ ghost use Rattle.tta_lower.specs.Lower.{parts};
 use std::alloc::{AllocError, Global};
 use tta_alloc::{Homes, Intervals};
 use tta_flow::{Flow, Live};
+use tta_lir::Rir;
 use tta_lower::{Part, all_parts};
 use tta_program::Program;
-use tta_rcode::Rir;
 
 /// A program on the way to its register code.
 #[derive(Drop)]

@@ -5,7 +5,7 @@ use Rattle.std.specs.List.{list_all, list_any}
 use Rattle.std.proofs.lemmas.Bool.{and_parts, or_parts, or_from, lt-leb, le-ltb, ne_eqb, eqb-false, not-true}
 use Rattle.tta_list.proofs.Tests.{none_from_is_some}
 use Rattle.tta_tac.specs.Cited.{Lexeme, Line, Declared, named_in, or_refuse, Units, are_apart, DataLine}
-use Rattle.tta_reading.specs.Steps.{◌>>=◌}
+use Rattle.tta_parse.specs.Steps.{◌>>=◌}
 use Rattle.tta_tac.specs.declared.refusal.Refusal.TheVariants.{Syntax}
 use Rattle.tta_tac.specs.Forms.{Form, ProcForm, DataForm, LabelForm, CallForm, ReturnForm, form_of}
 use Rattle.tta_tac.specs.Draft.{Unlinked, ProcDraft, Draft, nothing}

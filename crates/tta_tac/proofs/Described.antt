@@ -2,7 +2,7 @@
 use Rattle.std.proofs.Common.{◌≡◌, ℕ, List, Some, Ok, Err, Result, sym, ◌∙◌, ap, subst, refl}
 use Rattle.std.specs.Prelude.{IfOk, codes}
 use Rattle.tta_tac.specs.Cited.{lines_of, named_in, Units, Proc, Program, Reaches}
-use Rattle.tta_reading.proofs.Steps.{then-ok}
+use Rattle.tta_parse.proofs.Steps.{then-ok}
 use Rattle.tta_tac.specs.declared.refusal.TacError.{TacError}
 use Rattle.tta_tac.specs.Draft.{Draft, nothing}
 use Rattle.tta_tac.specs.SecondPass.{link_procs}

@@ -6,9 +6,9 @@ use Rattle.std.specs.List.{list_all}
 use Rattle.std.proofs.lemmas.Bool.{and_from}
 use Rattle.tta_text.proofs.Limits.{under, is_under}
 use Rattle.tta_tac.specs.Cited.{Lexeme, Line, is_keyword, is_mark, value_of, constant_of, only_if}
-use Rattle.tta_reading.specs.Steps.{◌>>?◌}
-use Rattle.tta_reading.proofs.Steps.{then-some}
-use Rattle.tta_reading.proofs.Constants.{constant_under, plain_under}
+use Rattle.tta_parse.specs.Steps.{◌>>?◌}
+use Rattle.tta_parse.proofs.Steps.{then-some}
+use Rattle.tta_parse.proofs.Constants.{constant_under, plain_under}
 use Rattle.tta_tac.specs.Forms.{Operand, Named, Constant, free_name, operand_of, or_constant, operands_alone, names_alone, rel_of, Form, LabelForm, HaltForm, EndForm, proc_form, data_form, store_form, put_form, if_form, goto_form, when_form, call_form, return_form, alone_form, assign_form, named_form, form_of}
 use Rattle.tta_tac.proofs.VariableLists.{fits}
 use Rattle.tta_tac.proofs.StepsKept.{fits_form}

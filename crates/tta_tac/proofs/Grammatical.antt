@@ -5,7 +5,7 @@ use Rattle.std.specs.List.{list_all}
 use Rattle.std.proofs.lemmas.Bool.{and_from}
 use Rattle.tta_list.proofs.Tests.{none_from_is_some}
 use Rattle.tta_tac.specs.Cited.{Line, Declared, at_line, Units, DataLine}
-use Rattle.tta_reading.proofs.Steps.{then-ok, some-ok, at_line-ok}
+use Rattle.tta_parse.proofs.Steps.{then-ok, some-ok, at_line-ok}
 use Rattle.tta_tac.specs.declared.refusal.Refusal.TheVariants.{Syntax}
 use Rattle.tta_tac.specs.Forms.{Form, ProcForm, DataForm, LabelForm, form_of}
 use Rattle.tta_tac.specs.Draft.{Unlinked, ProcDraft, Draft, nothing}

@@ -9,7 +9,7 @@ use Rattle.std.proofs.lemmas.Bool.Decides.{eqb_tells}
 use Rattle.std.proofs.lemmas.List.Sums.{sum_by-cons}
 use Rattle.std.proofs.Math.Dec.{eqb}
 use Rattle.tta_tac.specs.Cited.{Declared, named_in, or_refuse, refuse_if, Src, Step, Proc, DataLine, Program, is_call, IsProc, IsProgram, Reaches, ByCall, ByMore}
-use Rattle.tta_reading.proofs.Steps.{then-ok}
+use Rattle.tta_parse.proofs.Steps.{then-ok}
 use Rattle.tta_tac.specs.declared.refusal.Refusal.TheVariants.{UnknownProc}
 use Rattle.tta_tac.specs.Draft.{Draft, ProcDraft}
 use Rattle.tta_tac.specs.SecondPass.{callee_named, params_of, link_steps, link_proc, link_procs}

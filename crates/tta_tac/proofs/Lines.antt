@@ -4,7 +4,7 @@ use Rattle.std.specs.Prelude.{◌||◌, ◌&&◌, nat_lt, Option, Some, None, Re
 use Rattle.std.specs.Str.{bytes_eq}
 use Rattle.std.specs.Option.{option_map_or}
 use Rattle.tta_tac.specs.Cited.{Declared, named_in, refuse_if, Units}
-use Rattle.tta_reading.proofs.Steps.{refuse_if-ok}
+use Rattle.tta_parse.proofs.Steps.{refuse_if-ok}
 use Rattle.tta_tac.specs.declared.refusal.Refusal.{Refusal}
 use Rattle.tta_tac.specs.declared.refusal.Refusal.TheVariants.{UnknownOp, Arity, TooMany}
 use Rattle.tta_tac.specs.declared.draft.DraftProc.{DraftProc}

@@ -6,8 +6,8 @@ use Rattle.std.specs.List.{list_all}
 use Rattle.std.proofs.lemmas.Bool.{and_from}
 use Rattle.tta_list.proofs.Tests.{and_right, and_map}
 use Rattle.tta_tac.specs.Cited.{Declared, named_in, or_refuse, refuse_if, at_line, Src, Step, Proc, Program, is_src, is_call, ends_once}
-use Rattle.tta_reading.specs.Steps.{◌>>=◌}
-use Rattle.tta_reading.proofs.Steps.{then-ok, at_line-ok}
+use Rattle.tta_parse.specs.Steps.{◌>>=◌}
+use Rattle.tta_parse.proofs.Steps.{then-ok, at_line-ok}
 use Rattle.tta_program.specs.declared.step.Step.TheVariants as step
 use Rattle.tta_tac.specs.declared.refusal.Refusal.TheVariants.{UnknownLabel, Arity}
 use Rattle.tta_program.specs.Rules.{is_step, is_end}

@@ -9,7 +9,7 @@ use Rattle.std.proofs.lemmas.List.Folds.{list_all-append}
 use Rattle.tta_list.proofs.Lists.{all_push}
 use Rattle.tta_list.proofs.Tests.{and_map}
 use Rattle.tta_tac.specs.Cited.{Line, lines_of, Declared, named_in, or_refuse, refuse_if, at_line, Units, named, Rel, Step, Proc, StandsOver, is_over, has_test, test_name, Program}
-use Rattle.tta_reading.proofs.Steps.{then-ok, some-ok, at_line-ok}
+use Rattle.tta_parse.proofs.Steps.{then-ok, some-ok, at_line-ok}
 use Rattle.tta_ops.proofs.Named.{named_get}
 use Rattle.tta_program.specs.declared.step.Step.TheVariants as step
 use Rattle.tta_tac.specs.declared.refusal.Refusal.TheVariants.{Syntax, UnknownLabel, Arity}

@@ -2,7 +2,7 @@
 use Rattle.std.proofs.Common.{◌≡◌, ℕ, List, Some, sym, ◌∙◌, ap, subst}
 use Rattle.std.specs.Prelude.{codes}
 use Rattle.tta_tac.specs.Cited.{lines_of, named_in, Units, Program, IsProgram}
-use Rattle.tta_reading.proofs.Steps.{then-ok}
+use Rattle.tta_parse.proofs.Steps.{then-ok}
 use Rattle.tta_tac.specs.Draft.{nothing}
 use Rattle.tta_tac.specs.SecondPass.{link_procs}
 use Rattle.tta_tac.specs.Text.{Linked, take_lines, linked_text, ProgramText}

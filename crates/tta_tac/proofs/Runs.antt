@@ -2,9 +2,9 @@
 use Rattle.std.proofs.Common.{◌≡◌, Bool, true, false, not, ◌&&◌, List, [], ◌∷◌, refl, ◌⊎◌, inl, inr}
 use Rattle.std.specs.Prelude.{ℕ, Option, Some, None, map, if◌then◌else◌, is_some}
 use Rattle.std.specs.List.{list_all, cons_option}
-use Rattle.tta_reading.specs.declared.word.Word.{Word}
+use Rattle.tta_parse.specs.declared.word.Word.{Word}
 use Rattle.tta_tac.specs.Cited.{Lexeme, plain, texts, is_name_kind, only_if, is_reserved}
-use Rattle.tta_reading.specs.Steps.{◌>>?◌}
+use Rattle.tta_parse.specs.Steps.{◌>>?◌}
 use Rattle.tta_tac.specs.Forms.{operand_of, free_name, operands_alone, names_alone}
 use Rattle.tta_tac.specs.Seen.{operands_in}
 

@@ -6,7 +6,7 @@ use Rattle.std.specs.List.{AllByRecursion}
 use Rattle.std.proofs.lemmas.Option.{slice_get_read, slice_get_past}
 use Rattle.std.proofs.lemmas.List.{at_drop_more}
 use Rattle.tta_tac.specs.Cited.{Declared, at_line, Step, Proc}
-use Rattle.tta_reading.specs.Steps.{◌>>=◌}
+use Rattle.tta_parse.specs.Steps.{◌>>=◌}
 use Rattle.tta_tac.specs.declared.draft.NamedStep.{NamedStep}
 use Rattle.tta_tac.specs.declared.draft.DraftProc.{DraftProc}
 use Rattle.tta_tac.specs.declared.refusal.Refusal.{Refusal}

@@ -1,6 +1,6 @@
 -- What the definitions see of lists of the code's steps and procedures.
 use Rattle.std.proofs.Common.{◌≡◌, suc, List, [], ◌∷◌, ◌++◌, length, refl, ap}
-use Rattle.tta_reading.specs.declared.word.Word.{Word}
+use Rattle.tta_parse.specs.declared.word.Word.{Word}
 use Rattle.tta_tac.specs.Cited.{texts}
 use Rattle.tta_tac.specs.declared.draft.NamedStep.{NamedStep}
 use Rattle.tta_tac.specs.declared.draft.DraftProc.{DraftProc}

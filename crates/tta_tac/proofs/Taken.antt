@@ -4,7 +4,7 @@ use Rattle.std.specs.Prelude.{◌||◌, ◌&&◌, nat_lt, is_some, codes}
 use Rattle.std.specs.Str.{bytes_eq}
 use Rattle.std.proofs.lemmas.Bool.{or_parts, leb-false, ltb-false}
 use Rattle.tta_tac.specs.Cited.{named_in, Units}
-use Rattle.tta_reading.proofs.Steps.{same_ok, refuse_if-ok, some-ok}
+use Rattle.tta_parse.proofs.Steps.{same_ok, refuse_if-ok, some-ok}
 use Rattle.tta_tac.specs.declared.refusal.Refusal.TheVariants.{Syntax, UnknownOp, Arity, Twice, TooMany}
 use Rattle.tta_tac.specs.Forms.{Form, ProcForm, DataForm, LabelForm}
 use Rattle.tta_tac.specs.Draft.{Unlinked, ProcDraft, Draft}

@@ -2,7 +2,7 @@
 use Rattle.std.proofs.Common.{◌≡◌, ℕ, ◌+◌, true, List, [], ◌∷◌, Option, Some, None, Ok, refl, sym, ◌∙◌, ap, subst}
 use Rattle.std.specs.Option.{option_map_or}
 use Rattle.tta_tac.specs.Cited.{Line, lines_of, Declared, at_line, Units, DataLine}
-use Rattle.tta_reading.proofs.Steps.{then-ok, some-ok, at_line-ok}
+use Rattle.tta_parse.proofs.Steps.{then-ok, some-ok, at_line-ok}
 use Rattle.tta_tac.specs.declared.refusal.Refusal.TheVariants.{Syntax}
 use Rattle.tta_tac.specs.Forms.{form_of}
 use Rattle.tta_tac.specs.Draft.{ProcDraft, Draft, nothing}

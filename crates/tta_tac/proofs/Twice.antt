@@ -7,7 +7,7 @@ use Rattle.std.proofs.lemmas.List.{at_drop_more}
 use Rattle.std.specs.Cmp.Lexicographic.{nat_list_eq_equiv}
 use Rattle.tta_list.proofs.Tests.{or_swap}
 use Rattle.tta_tac.specs.Cited.{Declared, named_in, texts}
-use Rattle.tta_reading.specs.declared.word.Word.{Word}
+use Rattle.tta_parse.specs.declared.word.Word.{Word}
 use Rattle.tta_tac.specs.FirstPass.{has_twice, numbered}
 
 or_shuffle : (a b c d : Bool) → ((a || b) || (c || d)) ≡ (a || ((b || c) || d))

@@ -14,12 +14,12 @@ pub use Rattle.tta_program.specs.declared.program.DataLine.{DataLine}
 pub use Rattle.tta_program.specs.declared.program.Proc.{Proc}
 pub use Rattle.tta_program.specs.declared.step.Step.{Step}
 pub use Rattle.tta_program.specs.declared.step.Step.TheVariants.{End, Invoke}
-pub use Rattle.tta_reading.specs.Lines.{Lexeme, Line, plain, texts}
-unfoldable pub use Rattle.tta_reading.specs.Lines.{lines_of}
-pub use Rattle.tta_reading.specs.Names.{Declared, named_in}
-pub use Rattle.tta_reading.specs.Steps.{at_line, only_if, or_refuse, refuse_if}
-pub use Rattle.tta_reading.specs.Taken.{Takes}
-pub use Rattle.tta_reading.specs.Words.{constant_of, is_keyword, is_mark, is_name_kind, name_of, value_of}
-pub use Rattle.tta_reading.specs.declared.line_error.LineError.{LineError}
+pub use Rattle.tta_parse.specs.Lines.{Lexeme, Line, plain, texts}
+unfoldable pub use Rattle.tta_parse.specs.Lines.{lines_of}
+pub use Rattle.tta_parse.specs.Names.{Declared, named_in}
+pub use Rattle.tta_parse.specs.Steps.{at_line, only_if, or_refuse, refuse_if}
+pub use Rattle.tta_parse.specs.Taken.{Takes}
+pub use Rattle.tta_parse.specs.Words.{constant_of, is_keyword, is_mark, is_name_kind, name_of, value_of}
+pub use Rattle.tta_parse.specs.declared.line_error.LineError.{LineError}
 unfoldable pub use Rattle.tta_text.specs.Numbers.{digits_of, negative_of, number_of, value_below}
 unfoldable pub use Rattle.tta_text.specs.Tokens.{mark_piece, negative_piece, number_piece, piece_at, tokens_from, tokens_of}

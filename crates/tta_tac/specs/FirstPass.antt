@@ -5,7 +5,7 @@ use Rattle.std.specs.Str.{bytes_eq}
 use Rattle.std.specs.Option.{option_map_or}
 use Rattle.std.specs.List.{list_any}
 use Rattle.tta_tac.specs.Cited.{Line, Declared, named_in, or_refuse, refuse_if, OpId, Units, named, Src, Var, DataLine, test_name}
-use Rattle.tta_reading.specs.Steps.{◌>>=◌}
+use Rattle.tta_parse.specs.Steps.{◌>>=◌}
 use Rattle.tta_program.specs.declared.operand.Src.TheVariants.{Word}
 use Rattle.tta_program.specs.declared.step.Step.TheVariants as step
 use Rattle.tta_tac.specs.declared.refusal.Refusal.{Refusal}

@@ -1,7 +1,7 @@
 -- The forms of a program text's lines.
 use Rattle.std.specs.Prelude.{ℕ, not, if◌then◌else◌, List, [], ◌∷◌, Option, Some, None, codes}
 use Rattle.tta_tac.specs.Cited.{Lexeme, Line, is_keyword, is_mark, name_of, value_of, constant_of, only_if, is_reserved, Rel, Eq, Ne, Lt, Ge, Ltu, Geu}
-use Rattle.tta_reading.specs.Steps.{◌>>?◌}
+use Rattle.tta_parse.specs.Steps.{◌>>?◌}
 
 -- ---- words
 

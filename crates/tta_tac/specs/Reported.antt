@@ -2,7 +2,7 @@
 use Rattle.std.specs.Prelude.{◌≡◌, ℕ, List, Some, None, slice_get, Result, Ok, Err}
 use Rattle.std.specs.Option.{option_map_or}
 use Rattle.tta_tac.specs.Cited.{lines_of, LineError, Units, Proc, Program}
-use Rattle.tta_reading.specs.declared.line_error.LineError.TheVariants as line_error
+use Rattle.tta_parse.specs.declared.line_error.LineError.TheVariants as line_error
 use Rattle.tta_tac.specs.declared.refusal.Refusal.{Refusal}
 use Rattle.tta_tac.specs.declared.refusal.Refusal.TheVariants.{Recursive}
 use Rattle.tta_tac.specs.declared.refusal.TacError.{TacError}

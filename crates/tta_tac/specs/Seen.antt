@@ -1,7 +1,7 @@
 -- What the code reads of a line, as the definitions see it.
 use Rattle.std.specs.Prelude.{List, [], ◌∷◌, option_map}
 use Rattle.std.specs.List.{filter_map}
-use Rattle.tta_reading.specs.declared.word.Word.{Word}
+use Rattle.tta_parse.specs.declared.word.Word.{Word}
 use Rattle.tta_tac.specs.Cited.{plain, texts}
 use Rattle.tta_tac.specs.declared.forms.Operand.{Operand as OperandWords}
 use Rattle.tta_tac.specs.declared.forms.Operand.TheVariants as operand_words

@@ -2,7 +2,7 @@
 use Rattle.std.specs.Prelude.{◌≡◌, ℕ, ◌+◌, ◌<◌, List, [], ◌∷◌, Option, Some, None, slice_get, Result, Ok, Err, codes}
 use Rattle.std.specs.Option.{option_map_or}
 use Rattle.tta_tac.specs.Cited.{Line, lines_of, named_in, at_line, Units, Proc, Program, Reaches}
-use Rattle.tta_reading.specs.Steps.{◌>>=◌}
+use Rattle.tta_parse.specs.Steps.{◌>>=◌}
 use Rattle.tta_tac.specs.declared.refusal.Refusal.{Refusal}
 use Rattle.tta_tac.specs.declared.refusal.Refusal.TheVariants.{Syntax, Recursive, NoMain}
 use Rattle.tta_tac.specs.declared.refusal.TacError.{TacError}

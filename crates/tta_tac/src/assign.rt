@@ -1,15 +1,15 @@
 //! The forms of assignments: what stands after `d =`.
 
 ghost use Rattle.std.specs.Prelude.{◌≡◌, [], ◌∷◌, true, false, map, option_map, codes};
-ghost use Rattle.tta_reading.specs.Lines.{plain};
-ghost use Rattle.tta_reading.specs.Words.{is_keyword};
+ghost use Rattle.tta_parse.specs.Lines.{plain};
+ghost use Rattle.tta_parse.specs.Words.{is_keyword};
 ghost use Rattle.tta_tac.specs.Forms as spec;
 ghost use Rattle.tta_tac.specs.Seen.{form_seen};
 
 use crate::calls::call_form;
 use crate::forms::{Form, Operands};
 use crate::pieces::{free_name, operand_of};
-use tta_reading::Word;
+use tta_parse::Word;
 
 /// `d = s`, `d = in`, `d = load a`, `d = call NAME s ..`, `d = OPERATION b` and `d = OPERATION a b`, after
 /// the equals sign.

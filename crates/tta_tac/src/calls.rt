@@ -1,13 +1,13 @@
 //! The form of calls.
 
 ghost use Rattle.std.specs.Prelude.{◌≡◌, map, option_map};
-ghost use Rattle.tta_reading.specs.Lines.{plain};
+ghost use Rattle.tta_parse.specs.Lines.{plain};
 ghost use Rattle.tta_tac.specs.Forms as spec;
 ghost use Rattle.tta_tac.specs.Seen.{form_seen};
 
 use crate::forms::Form;
 use crate::pieces::{free_name, operands_alone};
-use tta_reading::Word;
+use tta_parse::Word;
 
 /// `call NAME s ..`, after a destination or without one.
 #[tactic(auto, unfolding(crate::specs::Forms::call_form))]

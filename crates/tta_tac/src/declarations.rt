@@ -8,7 +8,7 @@ ghost use Rattle.tta_tac.specs.Seen.{form_seen, operand_seen, operands_seen};
 use crate::forms::{Form, Operand, Operands};
 use crate::variables::{declare, declare_operand, declare_operands};
 use std::alloc::{AllocError, Global};
-use tta_reading::Names;
+use tta_parse::Names;
 
 /// Gives the variables of a line their numbers, in the order in which its words stand. An `Err` is
 /// out of memory.

@@ -2,8 +2,8 @@
 
 use crate::initial::InitialData;
 use tta_list::Items;
+use tta_parse::Names;
 use tta_program::{Args, Rel, Src, Step};
-use tta_reading::Names;
 
 /// A step whose label or callee is still a name. The texts are those of the program.
 #[derive(Drop)]

@@ -2,9 +2,9 @@
 
 ghost use Rattle.std.specs.Prelude.{◌≡◌, ◌≤◌, ◌+◌, ◌||◌, false, None};
 ghost use Rattle.std.specs.Prelude.{is_some, length, map, IfOk, OnOk};
-ghost use Rattle.tta_reading.specs.Lines.{plain, texts};
-ghost use Rattle.tta_reading.specs.Names.{named_in};
-ghost use Rattle.tta_reading.specs.Taken.{Takes};
+ghost use Rattle.tta_parse.specs.Lines.{plain, texts};
+ghost use Rattle.tta_parse.specs.Names.{named_in};
+ghost use Rattle.tta_parse.specs.Taken.{Takes};
 ghost use Rattle.tta_ops.specs.Set.{stated};
 ghost use Rattle.tta_tac.specs.Draft.{draft_seen, proc_seen, nothing};
 ghost use Rattle.tta_tac.specs.DraftRules.{IsDraft, IsBegun};
@@ -26,7 +26,7 @@ use crate::syntax::form_of;
 use std::alloc::{AllocError, Global};
 use tta_list::Items;
 use tta_ops::UnitSet;
-use tta_reading::{Names, Word};
+use tta_parse::{Names, Word};
 
 /// A procedure has at most this many parameters.
 const MOST_PARAMS: usize = 8;

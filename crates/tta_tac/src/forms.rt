@@ -1,7 +1,7 @@
 //! What the lines of a program's text say, as their words give it.
 
+use tta_parse::Word;
 use tta_program::Rel;
-use tta_reading::Word;
 
 /// An operand as it stands: the name of a variable, or a constant.
 #[derive(Clone, Copy)]

@@ -1,7 +1,7 @@
 //! Laws of program texts. A law is a function that does nothing, and whose contract is the law.
 
 ghost use Rattle.std.specs.Prelude.{ℕ, List};
-ghost use Rattle.tta_reading.specs.Lines.{lines_of};
+ghost use Rattle.tta_parse.specs.Lines.{lines_of};
 ghost use Rattle.tta_ops.specs.Units.{Units};
 ghost use Rattle.tta_program.specs.Program.{Program};
 ghost use Rattle.tta_program.specs.Rules.{IsProgram};

@@ -2,8 +2,8 @@
 
 ghost use Rattle.std.specs.Prelude.{◌≡◌, [], length};
 ghost use Rattle.std.specs.List.{AllByRecursion};
-ghost use Rattle.tta_reading.specs.Names.{named_in};
-ghost use Rattle.tta_reading.specs.Steps.{or_refuse};
+ghost use Rattle.tta_parse.specs.Names.{named_in};
+ghost use Rattle.tta_parse.specs.Steps.{or_refuse};
 ghost use Rattle.tta_tac.specs.Draft.{CallTo, draft_seen, proc_seen, procs_seen, step_seen};
 ghost use Rattle.tta_tac.specs.Draft.{steps_seen};
 ghost use Rattle.tta_tac.specs.Kept.{IsEnded};
@@ -15,8 +15,8 @@ use crate::draft::{Draft, DraftProc, NamedStep};
 use crate::refusal::{LineError, Refusal};
 use std::alloc::Global;
 use tta_list::Items;
+use tta_parse::Names;
 use tta_program::{Args, Proc, Step};
-use tta_reading::Names;
 
 /// The procedures of a draft in the order of the text. `Refused` reports the first step that names
 /// what there is not, or calls a procedure with another number of arguments than it has parameters.

@@ -2,7 +2,7 @@
 
 ghost use Rattle.std.specs.Prelude.{◌≡◌, ◌==◌, false, not, is_none, Ok, codes, length};
 ghost use Rattle.std.specs.Option.{option_map_or};
-ghost use Rattle.tta_reading.specs.Steps.{refuse_if};
+ghost use Rattle.tta_parse.specs.Steps.{refuse_if};
 ghost use Rattle.tta_ops.specs.Set.{stated};
 ghost use Rattle.tta_ops.specs.Units.{named};
 ghost use Rattle.tta_program.specs.Over.{test_name};

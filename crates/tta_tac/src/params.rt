@@ -2,14 +2,14 @@
 
 ghost use Rattle.std.specs.Prelude.{◌≡◌, ◌≤◌, ◌&&◌, false, nat_lt, [], IfOk};
 ghost use Rattle.std.specs.Prelude.{codes, bytes_eq, length};
-ghost use Rattle.tta_reading.specs.Lines.{texts};
+ghost use Rattle.tta_parse.specs.Lines.{texts};
 ghost use Rattle.tta_tac.specs.Draft.{proc_seen};
 ghost use Rattle.tta_tac.specs.FirstPass.{has_twice, numbered};
 
 use crate::draft::DraftProc;
 use std::alloc::{AllocError, Global};
 use tta_list::Items;
-use tta_reading::{Names, Word};
+use tta_parse::{Names, Word};
 
 /// Whether a name stands twice among words that are names. It takes time that is linear in the
 /// words, and memory for their texts; an `Err` is want of it.

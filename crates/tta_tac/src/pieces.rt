@@ -2,14 +2,14 @@
 
 ghost use Rattle.std.specs.Prelude.{◌≡◌, map, option_map, is_some};
 ghost use Rattle.std.specs.List.{list_all};
-ghost use Rattle.tta_reading.specs.Lines.{plain, texts};
+ghost use Rattle.tta_parse.specs.Lines.{plain, texts};
 ghost use Rattle.tta_tac.specs.Forms as spec;
 ghost use Rattle.tta_tac.specs.Seen.{operand_seen, operands_in};
 
 use crate::forms::Operand;
 use tta_ops::is_reserved;
+use tta_parse::Word;
 use tta_program::Rel;
-use tta_reading::Word;
 
 /// The bytes of a name that is no reserved word.
 pub fn free_name<'t>(word: &Word<'t>) -> Option<&'t [u8]>

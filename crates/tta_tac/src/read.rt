@@ -1,7 +1,7 @@
 //! The program of a text.
 
 ghost use Rattle.std.specs.Prelude.{◌≡◌, ◌≤◌, ◌^◌, length, IfOk, IfErr, OnOk};
-ghost use Rattle.tta_reading.specs.Lines.{lines_of};
+ghost use Rattle.tta_parse.specs.Lines.{lines_of};
 ghost use Rattle.tta_ops.specs.Set.{stated};
 ghost use Rattle.tta_program.specs.Over.{StandsOver};
 ghost use Rattle.tta_tac.specs.Draft.{draft_seen, nothing};
@@ -14,8 +14,8 @@ use crate::finish::finish;
 use crate::refusal::{LineError, Refusal, TacError};
 use std::alloc::Global;
 use tta_ops::UnitSet;
+use tta_parse::Lines;
 use tta_program::Program;
-use tta_reading::Lines;
 
 /// Takes all lines of a text into an empty draft. A text that ends inside a procedure is refused at
 /// the line after it.

@@ -1,7 +1,7 @@
 //! Why a program's text is refused.
 
 ghost use Rattle.std.specs.Prelude.{◌≡◌};
-ghost use Rattle.tta_reading.specs.declared.line_error.LineError.TheVariants.{NoMemory, Refused};
+ghost use Rattle.tta_parse.specs.declared.line_error.LineError.TheVariants.{NoMemory, Refused};
 ghost use Rattle.tta_tac.specs.Refusals.{code_of};
 
 use std::alloc::{AllocError, AllocFailed};
@@ -92,7 +92,7 @@ impl<T: Drop> From<AllocFailed<T>> for TacError {
 }
 
 /// Why a line could not be taken.
-pub type LineError = tta_reading::LineError<Refusal>;
+pub type LineError = tta_parse::LineError<Refusal>;
 
 impl From<Refusal> for LineError {
     ghost from_gives = { λ refusal e. e ≡ Refused refusal };

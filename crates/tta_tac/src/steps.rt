@@ -13,8 +13,8 @@ use crate::operations::op_named;
 use crate::variables::{args_of, count_operands, number_of, src_of};
 use std::alloc::{AllocError, Global};
 use tta_ops::UnitSet;
+use tta_parse::{Names, Word};
 use tta_program::{Rel, Src, Step};
-use tta_reading::{Names, Word};
 
 /// Whether a line is a call with more than eight arguments.
 pub fn has_many_args(form: &Form) -> bool

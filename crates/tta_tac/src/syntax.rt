@@ -4,8 +4,8 @@
 //! say, or `None` where the words are not of the form. Whether a name is known is not judged here.
 
 ghost use Rattle.std.specs.Prelude.{◌≡◌, map, option_map, Some};
-ghost use Rattle.tta_reading.specs.Lines.{plain};
-ghost use Rattle.tta_reading.specs.Steps.{◌>>?◌};
+ghost use Rattle.tta_parse.specs.Lines.{plain};
+ghost use Rattle.tta_parse.specs.Steps.{◌>>?◌};
 ghost use Rattle.tta_tac.specs.Forms as spec;
 ghost use Rattle.tta_tac.specs.Seen.{form_seen};
 
@@ -13,7 +13,7 @@ use crate::assign::assign_form;
 use crate::calls::call_form;
 use crate::forms::Form;
 use crate::pieces::{free_name, names_alone, operand_of, rel_of};
-use tta_reading::Word;
+use tta_parse::Word;
 
 /// What a line says, by its first word and the words after it; `None` where it is none of the
 /// forms.

@@ -8,8 +8,8 @@ ghost use Rattle.tta_tac.specs.Seen.{operand_seen, operands_in};
 use crate::forms::Operand;
 use crate::pieces::operand_of;
 use std::alloc::{AllocError, Global};
+use tta_parse::{Names, Word};
 use tta_program::{Args, Src};
-use tta_reading::{Names, Word};
 
 /// Gives a variable the next number, where it has none. An `Err` is out of memory.
 pub fn declare(alloc: Global, vars: &mut Names<u32>, name: &[u8]) -> Result<(), AllocError>

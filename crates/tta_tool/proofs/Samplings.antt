@@ -4,7 +4,7 @@ use Rattle.std.proofs.lemmas.List.{length-replicate}
 use Rattle.tta_tool.specs.Cited.{lines_text, Units, Machine, over, Program, data_of, Whole, data_in, HaltAlike, IsGiven, IsBuilt, Status, PutEnds, Output, Keeps}
 use Rattle.tta_program.specs.Sequential as program
 use Rattle.tta_code.specs.Cycle as cycle
-use Rattle.tta_agree.proofs.Words.{none_words}
+use Rattle.tta_refines.proofs.Words.{none_words}
 use Rattle.tta_tacrun.specs.Run as sequential
 use Rattle.tta_sim.specs.Held as simulated
 use Rattle.tta_load.specs.declared.status.Status.TheVariants as status

@@ -1,5 +1,5 @@
 -- What the definitions and lemmas of this crate cite of other crates, passed on from one place. Declares nothing.
-pub use Rattle.tta_agree.specs.Agrees.{HaltAlike, IsGiven, code_at, program_at}
+pub use Rattle.tta_refines.specs.Agrees.{HaltAlike, IsGiven, code_at, program_at}
 pub use Rattle.tta_arch.specs.Effects.{Brought, Calls, Halts, Jumps, Kind, Start, Written, bring, control_of, first_some, put_out, start_of, write_of}
 pub use Rattle.tta_arch.specs.Machine.{Machine}
 pub use Rattle.tta_arch.specs.declared.parts.Op.{Op}

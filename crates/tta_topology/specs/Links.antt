@@ -2,9 +2,9 @@
 use Rattle.std.specs.Prelude.{ℕ, ◌==◌, Bool, false, ◌&&◌, ◌||◌, nat_lt, if◌then◌else◌, List, [], ◌∷◌, length, Option, Some, None, is_some, slice_index_or, slice_set, Result, Ok, Err, codes}
 use Rattle.std.specs.Option.{option_map_or}
 use Rattle.std.specs.List.{list_any}
-use Rattle.tta_reading.specs.Lines.{Line}
-use Rattle.tta_reading.specs.Words.{is_keyword, value_of}
-use Rattle.tta_reading.specs.Steps.{◌>>?◌, only_if}
+use Rattle.tta_parse.specs.Lines.{Line}
+use Rattle.tta_parse.specs.Words.{is_keyword, value_of}
+use Rattle.tta_parse.specs.Steps.{◌>>?◌, only_if}
 use Rattle.tta_topology.specs.declared.error.Refusal.{Refusal}
 use Rattle.tta_topology.specs.declared.error.Refusal.TheVariants.{Syntax, Range, Twice}
 

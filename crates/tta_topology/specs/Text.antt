@@ -1,6 +1,6 @@
 -- What a text of links says.
 use Rattle.std.specs.Prelude.{◌≡◌, ℕ, ◌+◌, List, [], ◌∷◌, replicate, None, Result, Ok, Err}
-use Rattle.tta_reading.specs.Lines.{Line, lines_of}
+use Rattle.tta_parse.specs.Lines.{Line, lines_of}
 use Rattle.tta_topology.specs.declared.error.LinksError.{LinksError}
 use Rattle.tta_topology.specs.declared.error.LinksError.TheVariants.{Refused, NoMemory}
 use Rattle.tta_topology.specs.Refusals.{code_of}

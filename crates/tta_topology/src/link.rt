@@ -3,11 +3,11 @@
 ghost use Rattle.std.specs.Prelude.{◌≡◌, ◌<◌, ◌≤◌, length, map, MatchResult, OnErr, Ok, Err, slice_index_or};
 ghost use Rattle.std.specs.Prelude.{is_some, None, Some, slice_set};
 ghost use Rattle.std.specs.List.{list_any};
-ghost use Rattle.tta_reading.specs.Lines.{plain};
+ghost use Rattle.tta_parse.specs.Lines.{plain};
 ghost use Rattle.tta_topology.specs.Links as spec;
 
 use crate::error::Refusal;
-use tta_reading::Word;
+use tta_parse::Word;
 
 /// The two numbers of a `link` line.
 fn link_of(words: &[Word<'_>]) -> Option<(u32, u32)>

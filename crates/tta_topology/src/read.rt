@@ -6,7 +6,7 @@ ghost use Rattle.tta_topology.specs.Text.{links_of, HasCause};
 use crate::error::LinksError;
 use crate::link::take_line;
 use std::alloc::Global;
-use tta_reading::Lines;
+use tta_parse::Lines;
 
 /// The links of so many cores: for each, the core whose outputs are its input, `None` where no line
 /// feeds it. `Refused` reports the first line that is refused.

@@ -1,11 +1,11 @@
 -- What the module shows the outside beside the programs that its cores agree with.
 use Rattle.std.proofs.Common.{◌≡◌, ℕ, List, map, sym, subst}
 use Rattle.tta_list.specs.Prefix.{IsPrefixOf}
-use Rattle.tta_cores.specs.Network.{AreComparable}
-use Rattle.tta_cores.specs.Cluster.{output_given}
-use Rattle.tta_cores.specs.Programs.{group_output}
-use Rattle.tta_cores.specs.Laws.{Pair, core_in, core_memory, program_memory}
-use Rattle.tta_cores.proofs.Pairs.{made_at, cores_agree}
+use Rattle.tta_kahn.specs.Network.{AreComparable}
+use Rattle.tta_kahn.specs.Cluster.{output_given}
+use Rattle.tta_kahn.specs.Programs.{group_output}
+use Rattle.tta_kahn.specs.Laws.{Pair, core_in, core_memory, program_memory}
+use Rattle.tta_kahn.proofs.Pairs.{made_at, cores_agree}
 use Rattle.tta_board.proofs.Agreeing.{are_cores, are_spaces}
 use Rattle.tta_wired.specs.Joining.{passed_by}
 use Rattle.tta_wired.specs.Laws.{NetAgrees}

@@ -6,7 +6,7 @@ use Rattle.tta_list.specs.Prefix.{IsPrefixOf}
 use Rattle.tta_list.proofs.Prefixes.{prefix_same, prefix_chain}
 use Rattle.tta_ops.specs.Units.{Units}
 use Rattle.tta_circuit.specs.Meaning.{is_set}
-use Rattle.tta_cores.specs.declared.cores.Core.{Core}
+use Rattle.tta_kahn.specs.declared.cores.Core.{Core}
 use Rattle.tta_board.specs.Board.{Inputs, Powers}
 use Rattle.tta_wiring.specs.Signals.{Joint, Offers, Offer, Room}
 use Rattle.tta_wired.specs.Joining.{is_open, enters, entered_by}

@@ -11,11 +11,11 @@ use Rattle.tta_circuit.specs.Meaning.{is_set}
 use Rattle.tta_hardware.specs.Signals.{Signal as Named, HasHalted, IsReset, Gives}
 use Rattle.tta_hardware.specs.Stands.{is_halted}
 use Rattle.tta_hardware.proofs.Circuits.{is_settled}
-use Rattle.tta_cores.specs.declared.cores.Core.{Core}
-use Rattle.tta_cores.specs.Network.{Joined}
-use Rattle.tta_cores.specs.Cluster.{cluster_given, output_given, IsRestGiven}
-use Rattle.tta_cores.specs.Laws.{IsCore}
-use Rattle.tta_cores.proofs.Orders.{cores_compare}
+use Rattle.tta_kahn.specs.declared.cores.Core.{Core}
+use Rattle.tta_kahn.specs.Network.{Joined}
+use Rattle.tta_kahn.specs.Cluster.{cluster_given, output_given, IsRestGiven}
+use Rattle.tta_kahn.specs.Laws.{IsCore}
+use Rattle.tta_kahn.proofs.Orders.{cores_compare}
 use Rattle.tta_board.specs.Board.{Board, Inputs, Powers, lines, board_at, came_by, AreBoardClocks}
 use Rattle.tta_board.specs.Laws.{StandsAmong, AreFine, AreSpaces, NeverFault}
 use Rattle.tta_board.proofs.Passing as passing

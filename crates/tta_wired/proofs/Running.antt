@@ -17,10 +17,10 @@ use Rattle.tta_hardware.proofs.Chained.{set_bit, going}
 use Rattle.tta_hardware.proofs.Circuits.{is_settled, reset_is}
 use Rattle.tta_hardware.proofs.Pins.{streams_apart}
 use Rattle.tta_queue.specs.Queue as queue
-use Rattle.tta_cores.specs.declared.cores.Core.{Core}
-use Rattle.tta_cores.specs.Network.{Joined}
-use Rattle.tta_cores.specs.Cluster.{cluster_given}
-use Rattle.tta_cores.specs.Laws.{IsCore}
+use Rattle.tta_kahn.specs.declared.cores.Core.{Core}
+use Rattle.tta_kahn.specs.Network.{Joined}
+use Rattle.tta_kahn.specs.Cluster.{cluster_given}
+use Rattle.tta_kahn.specs.Laws.{IsCore}
 use Rattle.tta_joint.specs.Joint.{seen, new_words}
 use Rattle.tta_board.specs.Board.{Board, Inputs, Powers, lines, pins_of, board_at, put_by, came_by, AreBoardClocks}
 use Rattle.tta_board.specs.Laws.{StandsAmong, AreSpaces, NeverFault, HasComeBy, HasRun}

@@ -13,7 +13,7 @@ use Rattle.tta_hardware.proofs.Chained.{set_bit}
 use Rattle.tta_queue.specs.Queue.{Pin, same_pin, queue_of}
 use Rattle.tta_queue.specs.Queue as queue
 use Rattle.tta_queue.proofs.Clocking.{queue_looks}
-use Rattle.tta_cores.specs.declared.cores.Core.{Core}
+use Rattle.tta_kahn.specs.declared.cores.Core.{Core}
 use Rattle.tta_board.specs.Board.{Board, Inputs, Powers, board_after, board_at}
 use Rattle.tta_wiring.specs.declared.part.Source.{Source}
 use Rattle.tta_wiring.specs.declared.part.Source.TheVariants as source

@@ -12,9 +12,9 @@ use Rattle.tta_hardware.specs.Signals.{Signal as Named, HasHalted, IsOffered, Is
 use Rattle.tta_hardware.proofs.Chained.{set_bit, going}
 use Rattle.tta_hardware.proofs.Circuits.{is_settled}
 use Rattle.tta_queue.specs.Queue as queue
-use Rattle.tta_cores.specs.declared.cores.Core.{Core}
-use Rattle.tta_cores.specs.Network.{Network, feeder_of}
-use Rattle.tta_cores.specs.Cluster.{cycles}
+use Rattle.tta_kahn.specs.declared.cores.Core.{Core}
+use Rattle.tta_kahn.specs.Network.{Network, feeder_of}
+use Rattle.tta_kahn.specs.Cluster.{cycles}
 use Rattle.tta_board.specs.Board.{Board, Inputs, have_room, lines, pins_of, IsWiredCore, AreWired}
 use Rattle.tta_wiring.specs.Signals.{Joint, Outside, Offers, Offer, Cycle, Valid, Asks as Wants, Room, Rooms, Ready, Puts, Takes, is_feeder, rooms_of, feeder_at, source_of, is_outside, fed_by as word_fed, comes_by as word_comes}
 use Rattle.tta_wiring.specs.declared.part.Source.{Source}

@@ -10,7 +10,7 @@ use Rattle.tta_hardware.specs.Pins.{out_valid, in_ready}
 use Rattle.tta_hardware.specs.Stands.{Hardware}
 use Rattle.tta_queue.specs.Queue.{Pin}
 use Rattle.tta_queue.specs.Queue as queue
-use Rattle.tta_cores.specs.declared.cores.Core.{Core}
+use Rattle.tta_kahn.specs.declared.cores.Core.{Core}
 use Rattle.tta_board.specs.Board.{Board, Inputs, Powers, lines, pins_of, board_at}
 use Rattle.tta_wiring.specs.Signals.{Joint, Reset, Outside, Offers, Offer, Word, Room, CorePort, ResetOf, HaltedOf, CycleOf, OutValid, OutData, OutReady, InValid, InData, InReady, source_at, is_outside, core_wires, queue_wires, word_valid, core_joints, queue_joints}
 

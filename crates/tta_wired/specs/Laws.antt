@@ -6,12 +6,12 @@ use Rattle.tta_ops.specs.Units.{Units}
 use Rattle.tta_code.specs.Cycle.{State}
 use Rattle.tta_circuit.specs.Meaning.{is_set}
 use Rattle.tta_hardware.specs.Stands.{is_halted}
-use Rattle.tta_cores.specs.declared.cores.Core.{Core}
-use Rattle.tta_cores.specs.Network.{Joined}
-use Rattle.tta_cores.specs.Cited.{AreWords}
-use Rattle.tta_cores.specs.Cluster.{cluster_given, output_given}
-use Rattle.tta_cores.specs.Programs.{IsGroupRest, group_output}
-use Rattle.tta_cores.specs.Laws.{IsCore, IsPair, Pair, core_in, core_memory, program_memory}
+use Rattle.tta_kahn.specs.declared.cores.Core.{Core}
+use Rattle.tta_kahn.specs.Network.{Joined}
+use Rattle.tta_kahn.specs.Cited.{AreWords}
+use Rattle.tta_kahn.specs.Cluster.{cluster_given, output_given}
+use Rattle.tta_kahn.specs.Programs.{IsGroupRest, group_output}
+use Rattle.tta_kahn.specs.Laws.{IsCore, IsPair, Pair, core_in, core_memory, program_memory}
 use Rattle.tta_board.specs.Board.{Board, Inputs, Powers, AreWired}
 use Rattle.tta_board.specs.Laws.{AreSpaces, NeverFault, HasRun, Surroundings, AgreesSo}
 use Rattle.tta_progress.specs.Laws.{AreUpwards}

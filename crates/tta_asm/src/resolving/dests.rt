@@ -1,8 +1,8 @@
 //! What destinations stand for.
 
 ghost use Rattle.std.specs.Prelude.{◌≡◌};
-ghost use Rattle.tta_reading.specs.Names.{named_in};
-ghost use Rattle.tta_reading.specs.Steps.{◌>>?◌};
+ghost use Rattle.tta_parse.specs.Names.{named_in};
+ghost use Rattle.tta_parse.specs.Steps.{◌>>?◌};
 ghost use Rattle.tta_ops.specs.Set.{stated};
 ghost use Rattle.tta_asm.specs.Parts.{parts_of};
 ghost use Rattle.tta_asm.specs.Resolving.{register_at, operand_of, trigger_of, control_of};

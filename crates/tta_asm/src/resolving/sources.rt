@@ -1,8 +1,8 @@
 //! What values and sources stand for.
 
 ghost use Rattle.std.specs.Prelude.{◌≡◌, Some, is_some};
-ghost use Rattle.tta_reading.specs.Names.{named_in};
-ghost use Rattle.tta_reading.specs.Steps.{◌>>?◌, only_if};
+ghost use Rattle.tta_parse.specs.Names.{named_in};
+ghost use Rattle.tta_parse.specs.Steps.{◌>>?◌, only_if};
 ghost use Rattle.tta_arch.specs.declared.ends.Source.TheVariants.{Ra};
 ghost use Rattle.tta_asm.specs.declared.parts.Part.TheVariants.{File, Imm};
 ghost use Rattle.tta_asm.specs.Parts.{parts_of};
@@ -16,7 +16,7 @@ use crate::places::{file_at, imm_at, index_below, unit_at};
 use crate::refusal::AsmRefusal;
 use crate::target::Target;
 use tta_arch::{Machine, Source};
-use tta_reading::Names;
+use tta_parse::Names;
 
 /// The word of a value. It is refused as `Label` where a name is no label.
 pub fn word_of(labels: &Names<Label>, value: &ValueForm) -> Result<u32, AsmRefusal>

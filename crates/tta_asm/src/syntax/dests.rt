@@ -1,7 +1,7 @@
 //! Destinations.
 
 ghost use Rattle.std.specs.Prelude.{◌≡◌, map, option_map};
-ghost use Rattle.tta_reading.specs.Lines.{plain};
+ghost use Rattle.tta_parse.specs.Lines.{plain};
 ghost use Rattle.tta_asm.specs.Seen.{placed_seen, dest_seen};
 ghost use Rattle.tta_asm.specs.Syntax as spec;
 ghost use Rattle.tta_asm.specs.WordsRead.{reading_seen};
@@ -9,7 +9,7 @@ ghost use Rattle.tta_asm.specs.WordsRead.{reading_seen};
 use super::read::{Read, begins_with_word, behind_first, behind_mark, name_before, next_name};
 use crate::forms::DestForm;
 use crate::pieces::PlacedWord;
-use tta_reading::Word;
+use tta_parse::Word;
 
 /// An operation after `UNIT.t`.
 fn trigger_form<'w, 't>(

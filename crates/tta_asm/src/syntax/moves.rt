@@ -1,7 +1,7 @@
 //! Moves with their guards.
 
 ghost use Rattle.std.specs.Prelude.{◌≡◌, map, option_map};
-ghost use Rattle.tta_reading.specs.Lines.{plain};
+ghost use Rattle.tta_parse.specs.Lines.{plain};
 ghost use Rattle.tta_asm.specs.Seen.{placed_seen, guard_seen, move_seen};
 ghost use Rattle.tta_asm.specs.Syntax as spec;
 ghost use Rattle.tta_asm.specs.WordsRead.{reading_seen};
@@ -11,7 +11,7 @@ use super::read::{Read, behind_mark, name_before, next_number};
 use super::sources::source_form;
 use crate::forms::{GuardForm, MoveForm};
 use crate::pieces::PlacedWord;
-use tta_reading::Word;
+use tta_parse::Word;
 
 /// Whether a word begins a guard, and then whether the guard is inverted.
 fn sense_of(word: &Word) -> Option<bool>

@@ -1,15 +1,15 @@
 //! Single words of a piece.
 
 ghost use Rattle.std.specs.Prelude.{◌≡◌, map, drop, option_map};
-ghost use Rattle.tta_reading.specs.Lines.{plain};
-ghost use Rattle.tta_reading.specs.Words.{name_of, value_of, constant_of};
+ghost use Rattle.tta_parse.specs.Lines.{plain};
+ghost use Rattle.tta_parse.specs.Words.{name_of, value_of, constant_of};
 ghost use Rattle.tta_asm.specs.Seen.{placed_seen, value_seen};
 ghost use Rattle.tta_asm.specs.Syntax as spec;
 ghost use Rattle.tta_asm.specs.WordsRead.{name_before, reading_seen, result_seen};
 
 use crate::forms::ValueForm;
 use crate::pieces::PlacedWord;
-use tta_reading::Word;
+use tta_parse::Word;
 
 /// What was read, with the words after it.
 #[derive(Clone, Copy)]

@@ -1,7 +1,7 @@
 //! Sources.
 
 ghost use Rattle.std.specs.Prelude.{◌≡◌, map, option_map};
-ghost use Rattle.tta_reading.specs.Lines.{plain};
+ghost use Rattle.tta_parse.specs.Lines.{plain};
 ghost use Rattle.tta_asm.specs.Seen.{placed_seen, value_seen, source_seen};
 ghost use Rattle.tta_asm.specs.Syntax as spec;
 ghost use Rattle.tta_asm.specs.WordsRead.{reading_seen};
@@ -9,7 +9,7 @@ ghost use Rattle.tta_asm.specs.WordsRead.{reading_seen};
 use super::read::{Read, begins_with, behind_first, next_value};
 use crate::forms::{SourceForm, ValueForm};
 use crate::pieces::PlacedWord;
-use tta_reading::Word;
+use tta_parse::Word;
 
 /// What may stand after the `.` of a source: an index, `r`, or `ra` of control.
 fn source_end<'t>(name: &'t [u8], word: &Word) -> Option<SourceForm<'t>>

@@ -1,13 +1,13 @@
 //! The forms of buses, sockets, files, immediate units and units.
 
 ghost use Rattle.std.specs.Prelude.{◌≡◌, map, option_map};
-ghost use Rattle.tta_reading.specs.Lines.{plain};
+ghost use Rattle.tta_parse.specs.Lines.{plain};
 ghost use Rattle.tta_machine.specs.Forms as spec;
 ghost use Rattle.tta_machine.specs.Seen.{bus_seen, socket_seen, file_seen, imm_seen, unit_seen};
 
 use super::pieces::{keyed_name, keyed_value, names_alone, one_of_two};
 use crate::forms::{BusForm, FileForm, ImmForm, SocketForm, UnitForm};
-use tta_reading::Word;
+use tta_parse::Word;
 
 /// What the words after `bus` declare.
 #[tactic(auto, unfolding(crate::specs::Forms::bus_form))]

@@ -2,11 +2,11 @@
 
 ghost use Rattle.std.specs.Prelude.{◌≡◌, map, option_map};
 ghost use Rattle.std.specs.List.{list_all};
-ghost use Rattle.tta_reading.specs.Lines.{plain, texts};
-ghost use Rattle.tta_reading.specs.Words.{is_name_kind};
+ghost use Rattle.tta_parse.specs.Lines.{plain, texts};
+ghost use Rattle.tta_parse.specs.Words.{is_name_kind};
 ghost use Rattle.tta_machine.specs.Forms as spec;
 
-use tta_reading::Word;
+use tta_parse::Word;
 use tta_text::Kind;
 
 /// Whether a word is the first of two keywords, where it is one of them.

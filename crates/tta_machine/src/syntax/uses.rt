@@ -2,14 +2,14 @@
 //! spaces' sizes.
 
 ghost use Rattle.std.specs.Prelude.{◌≡◌, map, option_map};
-ghost use Rattle.tta_reading.specs.Lines.{plain};
+ghost use Rattle.tta_parse.specs.Lines.{plain};
 ghost use Rattle.tta_machine.specs.Forms as spec;
 ghost use Rattle.tta_machine.specs.Seen.{op_seen, guard_seen, template_seen, control_seen};
 ghost use Rattle.tta_machine.specs.Seen.{space_seen};
 
 use super::pieces::{keyed_name, keyed_value, names_alone, one_of_two};
 use crate::forms::{ControlForm, GuardForm, OpForm, SpaceForm, TemplateForm};
-use tta_reading::Word;
+use tta_parse::Word;
 
 /// What the words after `op` declare.
 #[tactic(auto, unfolding(crate::specs::Forms::op_form))]

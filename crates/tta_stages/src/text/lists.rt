@@ -12,7 +12,7 @@ use crate::text::items::push_items;
 use crate::text::named::{Of, push_named};
 use crate::text::words::{push_count, push_pairs};
 use std::alloc::AllocError;
-use tta_build::{Order, Ordered, Round, Rounds, Start, Trail};
+use tta_build::{Derivation, Order, Ordered, Round, Rounds, Start};
 use tta_moves::BlockList;
 use tta_ops::UnitSet;
 use tta_optim::Passed;
@@ -181,7 +181,7 @@ fn push_trail(
     units: &UnitSet,
     of: &Of<'_>,
     k: usize,
-    trail: &Trail,
+    trail: &Derivation,
 ) -> Result<(), AllocError>
     ensures { OnOk result (out.new.items ≡ out.old.items
         ++ trail_text (stated unit_meaning units.now) of.now.m.now of.now.p.now of.now.parts.now
@@ -207,7 +207,7 @@ fn push_trail_at(
     units: &UnitSet,
     of: &Of<'_>,
     k: usize,
-    trails: &[Trail],
+    trails: &[Derivation],
 ) -> Result<(), AllocError>
     ensures { OnOk result (out.new.items ≡ out.old.items
         ++ trail_at (stated unit_meaning units.now) of.now.m.now of.now.p.now of.now.parts.now
@@ -226,7 +226,7 @@ fn push_block_lists(
     units: &UnitSet,
     of: &Of<'_>,
     k: usize,
-    trails: &[Trail],
+    trails: &[Derivation],
     list: &BlockList,
 ) -> Result<(), AllocError>
     ensures { OnOk result (out.new.items ≡ out.old.items
@@ -243,7 +243,7 @@ pub fn push_lists(
     out: &mut Vec<u8>,
     units: &UnitSet,
     of: &Of<'_>,
-    trails: &[Trail],
+    trails: &[Derivation],
     lists: &[BlockList],
 ) -> Result<(), AllocError>
     ensures { OnOk result (out.new.items ≡ out.old.items

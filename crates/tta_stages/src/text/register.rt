@@ -12,11 +12,11 @@ use crate::text::steps::{On, push_exit, push_rsteps};
 use crate::text::words::{push_block, push_count, push_home, push_proc};
 use std::alloc::AllocError;
 use tta_flow::Block;
+use tta_lir::RBlock;
 use tta_lower::Part;
 use tta_moves::Placed;
 use tta_ops::UnitSet;
 use tta_program::Program;
-use tta_rcode::RBlock;
 
 /// What the headings of blocks are told of: a program, where the code of each block begins, and its
 /// placement.

@@ -12,9 +12,9 @@ use crate::text::words::{push_block, push_count, push_kept, push_operand};
 use std::alloc::AllocError;
 use tta_arch::{Machine, Op};
 use tta_disasm::op_name;
+use tta_lir::{Exit, Place, RSrc, RStep};
 use tta_ops::{OpId, UnitSet};
 use tta_program::Rel;
-use tta_rcode::{Exit, Place, RSrc, RStep};
 
 /// What the steps of register code are told of: a machine, and those of its registers that are home
 /// registers.

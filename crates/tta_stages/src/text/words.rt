@@ -9,7 +9,7 @@ use itoa::Buffer;
 use std::alloc::AllocError;
 use tta_arch::Machine;
 use tta_disasm::{file_name, push_place};
-use tta_rcode::{Place, RSrc};
+use tta_lir::{Place, RSrc};
 
 /// Puts a number at the end, in decimal.
 pub fn push_number(out: &mut Vec<u8>, n: u128) -> Result<(), AllocError>

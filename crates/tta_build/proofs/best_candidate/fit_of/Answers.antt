@@ -1,7 +1,7 @@
 use Rattle.std.proofs.Common.{◌≡◌, List, true, sym, subst, IfOk}
 use Rattle.std.proofs.lemmas.Result.{IfOk-at_ok}
 use Rattle.tta_build.specs.Cited.{BlockList, Item, Placed, Respects, IsFirstFit, is_list, HasRoom}
-use Rattle.tta_build.specs.Trail.{last_of}
+use Rattle.tta_build.specs.Derivation.{last_of}
 use Rattle.tta_build.proofs.best_candidate.fit_of.Goals as goal
 
 pub place-placed-requires : goal.place-placed-requires

@@ -1,7 +1,7 @@
 use Rattle.std.proofs.Common.{◌≡◌, sym, ◌∙◌, length, arith, refl}
 use Rattle.std.proofs.lemmas.List.{length-map}
 use Rattle.std.proofs.lemmas.Option.{slice_get_read}
-use Rattle.tta_build.specs.Trail.{last_of, lasts_of}
+use Rattle.tta_build.specs.Derivation.{last_of, lasts_of}
 use Rattle.tta_build.proofs.EachBlock.{block_more}
 use Rattle.tta_build.proofs.best_candidate.place_each.Goals as goal
 

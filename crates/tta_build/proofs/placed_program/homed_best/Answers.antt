@@ -2,9 +2,9 @@ use Rattle.std.proofs.Common.{◌≡◌, Option, sym, subst}
 use Rattle.std.specs.Prelude.{IfSome}
 use Rattle.std.proofs.lemmas.Result.{IfOk-at_ok}
 use Rattle.tta_build.specs.Cited.{stated, Homes}
-use Rattle.tta_build.specs.declared.register.Sharing.TheVariants.{Least}
+use Rattle.tta_build.specs.declared.register.RegisterOrder.TheVariants.{Least}
 use Rattle.tta_build.specs.declared.placed_program.Homed.{Homed}
-use Rattle.tta_build.specs.Sharing.{AreHomesBy}
+use Rattle.tta_build.specs.RegisterOrder.{AreHomesBy}
 use Rattle.tta_build.specs.Value.{IsListedWith, IsHomedBest}
 use Rattle.tta_build.proofs.Compiling.{in_turn, of_two}
 use Rattle.tta_build.proofs.placed_program.homed_best.Goals as goal

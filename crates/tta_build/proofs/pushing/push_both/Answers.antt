@@ -2,7 +2,7 @@ use Rattle.std.proofs.Common.{◌≡◌, sym, ap, ◌∙◌, subst}
 use Rattle.std.proofs.lemmas.Result.{IfOk-at_ok}
 use Rattle.tta_build.specs.declared.trail.Start.{Start}
 use Rattle.tta_build.specs.declared.trail.Rounds.{Rounds}
-use Rattle.tta_build.specs.Trail.{IsStart, start_of, AreRounds}
+use Rattle.tta_build.specs.Derivation.{IsStart, start_of, AreRounds}
 use Rattle.tta_build.proofs.Trails.{on_ok}
 use Rattle.tta_build.proofs.pushing.push_both.Goals as goal
 

@@ -1,7 +1,7 @@
 use Rattle.std.proofs.Common.{Option, subst}
 use Rattle.std.specs.Prelude.{IfSome}
 use Rattle.tta_build.specs.declared.trail.Rounds.{Rounds}
-use Rattle.tta_build.specs.Trail.{AreRounds}
+use Rattle.tta_build.specs.Derivation.{AreRounds}
 use Rattle.tta_build.proofs.pushing.push_some.Goals as goal
 
 pub returns-in_ok-push_one-in-Some : goal.returns-in_ok-push_one-in-Some

@@ -1,7 +1,7 @@
 use Rattle.std.proofs.Common.{◌≡◌, ◌+◌, ◌∷◌, List, Ok, length, map, refl, sym, subst, ◌∙◌, arith}
 use Rattle.tta_machine.specs.Cited.{Word, plain, stated}
 use Rattle.std.specs.List.{AllByRecursion}
-use Rattle.tta_reading.proofs.TextNames.{LineNames, text_names}
+use Rattle.tta_parse.proofs.TextNames.{LineNames, text_names}
 use Rattle.tta_machine.specs.Text.{take_line}
 use Rattle.tta_machine.specs.Kept.{IsDraft}
 use Rattle.tta_machine.proofs.Whole.{lines_taken}

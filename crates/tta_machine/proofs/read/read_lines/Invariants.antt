@@ -1,7 +1,7 @@
 use Rattle.std.proofs.Common.{◌≡◌, ◌≤◌, ◌+◌, ◌^◌, length}
 use Rattle.std.specs.List.{AllByRecursion}
 use Rattle.tta_machine.specs.Cited.{lines_of, stated}
-use Rattle.tta_reading.proofs.TextNames.{LineNames}
+use Rattle.tta_parse.proofs.TextNames.{LineNames}
 use Rattle.tta_machine.specs.Draft.{nothing}
 use Rattle.tta_machine.specs.Text.{take_lines}
 use Rattle.tta_machine.specs.Kept.{IsDraft}

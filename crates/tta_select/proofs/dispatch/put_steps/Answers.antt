@@ -3,7 +3,7 @@ use Rattle.std.proofs.lemmas.Bool.{and_parts}
 use Rattle.std.proofs.lemmas.Option.{slice_get-get_or}
 use Rattle.tta_list.proofs.Lists.{list_all_one}
 use Rattle.tta_select.specs.Cited.{stated, At, RStep, Copy}
-use Rattle.tta_rcode.specs.declared.code.Place.TheVariants.{Reg}
+use Rattle.tta_lir.specs.declared.code.Place.TheVariants.{Reg}
 use Rattle.tta_select.specs.Needs.{op_of_step, is_step_of, is_offered, fits_step}
 use Rattle.tta_select.proofs.dispatch.put_steps.Goals as goal
 

@@ -1,7 +1,7 @@
 use Rattle.std.proofs.Common.{◌≡◌, [], ap, ◌+◌, ◌∷◌, List, Ok, Err, length, map, sym, subst, ◌∙◌, arith}
-use Rattle.tta_reading.specs.declared.word.Word.{Word}
+use Rattle.tta_parse.specs.declared.word.Word.{Word}
 use Rattle.tta_tac.specs.Cited.{plain, Takes, LineError, stated}
-use Rattle.tta_reading.specs.declared.line_error.LineError.TheVariants as line_error
+use Rattle.tta_parse.specs.declared.line_error.LineError.TheVariants as line_error
 use Rattle.tta_tac.specs.Draft.{draft_seen}
 use Rattle.tta_tac.specs.FirstPass.{take_line}
 use Rattle.tta_tac.specs.declared.refusal.TacError.TheVariants as tac_error

@@ -2,8 +2,8 @@ use Rattle.std.proofs.Common.{sym, subst}
 use Rattle.std.specs.Prelude.{Vec}
 use Rattle.std.specs.Global.{Global}
 use Rattle.std.proofs.lemmas.Result.{IfOk-at_ok}
-use Rattle.tta_build.specs.declared.trail.Trail.{Trail}
-use Rattle.tta_build.specs.Trail.{AreTrailsOf}
+use Rattle.tta_build.specs.declared.trail.Derivation.{Derivation}
+use Rattle.tta_build.specs.Derivation.{AreTrailsOf}
 use Rattle.tta_build.specs.Placing.{IsBest}
 use Rattle.tta_build.proofs.best_candidate.Chooser.place.Goals as goal
 
@@ -14,7 +14,7 @@ shortest-requires c =
     let both = c.in_ok-first-2.ensures in record {
       list = c.requires.list;
       best = subst (IsBest m b) (sym both.first) c.in_ok-first.ensures;
-      others = IfOk-at_ok (λ (ts : Vec Trail Global). AreTrailsOf m b ts.items) both.other c.others-others.ensures;
+      others = IfOk-at_ok (λ (ts : Vec Derivation Global). AreTrailsOf m b ts.items) both.other c.others-others.ensures;
     }
 
 pub with_last-requires : goal.with_last-requires

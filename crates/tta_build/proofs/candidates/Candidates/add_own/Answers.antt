@@ -2,7 +2,7 @@ use Rattle.std.proofs.Common.{◌≡◌, Option, sym, ◌∙◌, subst}
 use Rattle.std.specs.Prelude.{IfSome}
 use Rattle.std.proofs.lemmas.Result.{IfOk-at_ok}
 use Rattle.tta_build.specs.declared.trail.Rounds.{Rounds}
-use Rattle.tta_build.specs.Trail.{AreRounds}
+use Rattle.tta_build.specs.Derivation.{AreRounds}
 use Rattle.tta_build.proofs.Trails.{on_ok}
 use Rattle.tta_build.proofs.candidates.Candidates.add_own.Goals as goal
 

@@ -1,14 +1,14 @@
 use Rattle.std.proofs.Common.{Option, subst}
 use Rattle.std.specs.Prelude.{IfSome}
-use Rattle.tta_build.specs.Cited.{BlockList, IsStandIn}
+use Rattle.tta_build.specs.Cited.{BlockList, IsEquivalent}
 use Rattle.tta_build.proofs.rounds.Rounder.dealt.Goals as goal
 
 pub as_bound-requires : goal.as_bound-requires
 as_bound-requires c =
-    let stands = subst (λ (o : Option BlockList). IfSome o (λ r. IsStandIn c.args.on.now.joined.machine.now c.args.list.now r)) c.in-Some.is c.in_ok-bound.ensures in
+    let stands = subst (λ (o : Option BlockList). IfSome o (λ r. IsEquivalent c.args.on.now.joined.machine.now c.args.list.now r)) c.in-Some.is c.in_ok-bound.ensures in
     record { list = stands.spare.list c.requires.list }
 
 pub returns-in_ok-round-in-Some : goal.returns-in_ok-round-in-Some
 returns-in_ok-round-in-Some c =
-    let stands = subst (λ (o : Option BlockList). IfSome o (λ r. IsStandIn c.args.on.now.joined.machine.now c.args.list.now r)) c.in-Some.is c.in_ok-bound.ensures in
+    let stands = subst (λ (o : Option BlockList). IfSome o (λ r. IsEquivalent c.args.on.now.joined.machine.now c.args.list.now r)) c.in-Some.is c.in_ok-bound.ensures in
     c.in_ok-round-in-Some.ensures c.args.list.now stands

@@ -2,7 +2,7 @@ use Rattle.std.proofs.Common.{◌≡◌, true, Option, sym, subst}
 use Rattle.std.specs.Prelude.{IfSome}
 use Rattle.tta_build.specs.Cited.{BlockList, is_list}
 use Rattle.tta_build.specs.declared.trail.Round.{Round}
-use Rattle.tta_build.specs.Trail.{IsRound}
+use Rattle.tta_build.specs.Derivation.{IsRound}
 use Rattle.std.proofs.lemmas.Result.{IfOk-at_ok}
 use Rattle.tta_build.proofs.Trails.{round_list}
 use Rattle.tta_build.proofs.rounds.Rounder.with_items.Goals as goal

@@ -1,7 +1,7 @@
 use Rattle.std.proofs.Common.{◌+◌, ℕ, List, ◌++◌, sym, ap, ◌∙◌, subst}
 use Rattle.std.specs.Prelude.{option_to_list}
 use Rattle.tta_net.specs.Cited.{stated, stepped}
-use Rattle.tta_cores.proofs.Outcomes.{changes}
+use Rattle.tta_kahn.proofs.Outcomes.{changes}
 use Rattle.tta_net.specs.declared.member.Member.{Member}
 use Rattle.tta_net.specs.Members.{StandsAs, alone}
 use Rattle.tta_net.proofs.Stepping.{stands_fed, goes_as, counts, halted_same, halted_goes, fault_goes, none_taken, one_taken, answers_ran, answers_halted, answers_waiting, answers_fault}

@@ -1,5 +1,0 @@
-use Rattle.tta_compose.proofs.Directly.{direct_is_list}
-use Rattle.tta_compose.proofs.laws.direct_is_list.Goals as goal
-
-pub returns : goal.returns
-returns c = direct_is_list

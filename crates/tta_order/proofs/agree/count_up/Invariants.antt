@@ -1,5 +1,0 @@
-use Rattle.tta_order.specs.Orders.{AreInPlace}
-use Rattle.tta_order.proofs.agree.count_up.Given as goal
-
-abbrev pub invariant-loop-k : goal.invariant-loop-k
-invariant-loop-k l = AreInPlace l.k l.numbers

@@ -1,5 +1,0 @@
-use Rattle.tta_order.proofs.Settled.{SettledTo}
-use Rattle.tta_order.proofs.agree.settled.Given as goal
-
-abbrev pub invariant-loop-n : goal.invariant-loop-n
-invariant-loop-n l = SettledTo l.m l.items l.count l.n

@@ -1,5 +1,0 @@
-use Rattle.tta_order.proofs.Walked.{PartsTo}
-use Rattle.tta_order.proofs.ends.same_parts.Given as goal
-
-abbrev pub invariant-loop-n : goal.invariant-loop-n
-invariant-loop-n l = PartsTo l.m l.parts l.items l.a l.b l.n

@@ -1,7 +1,0 @@
-use Rattle.std.proofs.Common.{arith}
-use Rattle.tta_reading.proofs.Counted.{length-lines}
-use Rattle.tta_reading.proofs.lines.Lines.new.Goals as goal
-
--- a text has at most one line more than bytes
-pub returns-clause-few : goal.returns-clause-few
-returns-clause-few c = rw c.new.ensures (omega (arith, length-lines c.args.text.now))
