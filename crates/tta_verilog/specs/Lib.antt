@@ -1,2 +1,4 @@
 pub mod Expressions
 pub mod Circuits
+pub mod Spelling
+pub mod Laws

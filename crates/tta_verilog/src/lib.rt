@@ -1,6 +1,8 @@
 //! What the text of a circuit is, in a part of Verilog-2001, and the writers of its tokens.
 #![tactic(auto)]
 
+mod laws;
 mod tokens;
 
+pub use laws::{one_circuit, one_expression};
 pub use tokens::{push_bit, push_constant, push_number, push_range, push_text};

@@ -1,0 +1,16 @@
+pub mod Words
+pub mod Forms
+pub mod Bare
+pub mod Reader
+pub mod Reading
+pub mod Filled
+pub mod OneExpressions
+pub mod Lists
+pub mod Lines
+pub mod Memories
+pub mod Arrays
+pub mod Parts
+pub mod Agreeing
+pub mod Told
+pub mod OneCircuits
+pub mod Rows
