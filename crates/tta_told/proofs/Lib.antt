@@ -1,0 +1,11 @@
+pub mod Narrow
+pub mod Constants
+pub mod WireConstants
+pub mod RegisterConstants
+pub mod Spelled
+pub mod Lookups
+pub mod Decoding
+pub mod NamesGood
+pub mod Ranges
+pub mod Alike
+pub mod OneTexts

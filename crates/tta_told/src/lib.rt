@@ -1,0 +1,6 @@
+//! Laws of the text of a machine with its code as a circuit.
+#![tactic(auto)]
+
+mod laws;
+
+pub use laws::one_text;
