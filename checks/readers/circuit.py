@@ -102,8 +102,6 @@ class Words:
         if e.sign in ("<<", ">>"):
             return f"({self.code(e.left, width)} {e.sign} min({self.own(e.right)}, {width}) & {ones(width)})"
         self.alike(e.left, e.right, e.sign)
-        if e.sign in "/%":
-            return f"divided({self.code(e.left, width)}, {self.code(e.right, width)}, {e.sign == '/'}, {width})"
         return f"({self.code(e.left, width)} {e.sign} {self.code(e.right, width)} & {ones(width)})"
 
     def chain(self, e, width):
@@ -157,10 +155,6 @@ class Circuit:
     def read(self, memory, address, width):
         return memory[address] if address < len(memory) else self.by.getrandbits(width)
 
-    def divided(self, one, other, is_quotient, width):
-        """Where the divisor is 0 Verilog knows no word."""
-        return self.by.getrandbits(width) if not other else one // other if is_quotient else one % other
-
     def function(self, name, it, room):
         """Makes a function of the text one of Python."""
         if type(it) is Table:
@@ -186,7 +180,7 @@ class Circuit:
 
     def made(self):
         """A function of the inputs: the words of all names before a clock, what registers take, and what is written into memories."""
-        module, room = self.module, {"read": self.read, "divided": self.divided}
+        module, room = self.module, {"read": self.read}
         room.update((f"m_{name}", words) for name, words in self.memories.items())
         for name, it in module.functions.items():
             self.function(name, it, room)

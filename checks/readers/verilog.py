@@ -4,9 +4,9 @@ import re
 
 from readers.verilog_forms import Binary, Call, Constant, Function, Instance, Invert, Join, Memory, Module, Name, Not, Outside, Part, Read, Refused, Repeat, Select, Table, Taken
 
-TOKEN = re.compile(r"\s*(?:(//[^\n]*\n)|([`$]\w+)|(\d+'[db][0-9]+)|([\x22]\w+\.(?:v|hex)[\x22])|(\d+)|([A-Za-z_]\w*)|(<=|\+:|&&|\|\||==|!=|<<|>>|[][(){}?:;,.=<>+\-*/%&|^~!@#]))")
+TOKEN = re.compile(r"\s*(?:(//[^\n]*\n)|([`$]\w+)|(\d+'[db][0-9]+)|([\x22]\w+\.(?:v|hex)[\x22])|(\d+)|([A-Za-z_]\w*)|(<=|\+:|&&|\|\||==|!=|<<|>>|[][(){}?:;,.=<>+\-*&|^~!@#]))")
 # Operators from the loosest to the tightest.
-LEVELS = (("||",), ("&&",), ("|",), ("^",), ("&",), ("==", "!="), ("<", ">"), ("<<", ">>"), ("+", "-"), ("*", "/", "%"))
+LEVELS = (("||",), ("&&",), ("|",), ("^",), ("&",), ("==", "!="), ("<", ">"), ("<<", ">>"), ("+", "-"), ("*",))
 
 
 class Reader:

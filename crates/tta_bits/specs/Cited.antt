@@ -7,5 +7,5 @@ pub use Rattle.tta_op_circuits.specs.Worked.{First, Inner, Makes, Port, Second, 
 unfoldable pub use Rattle.tta_op_circuits.specs.Worked.{is_in_order}
 pub use Rattle.tta_ops.specs.Operation.{Operation, no_operation, operation}
 pub use Rattle.tta_ops.specs.Units.{Units}
-pub use Rattle.tta_rtl.specs.Operations.{before_word, port_names}
+pub use Rattle.tta_rtl.specs.Variables.{before_word, port_names}
 pub use Rattle.tta_verilog.specs.Expressions.{expression}

@@ -3,13 +3,11 @@ use Rattle.std.proofs.Common.{◌≡◌, ℕ, ◌<◌, ◌*◌, ◌/◌, ◌%◌
 use Rattle.std.specs.Prelude.{if◌then◌else◌, nat_eq}
 use Rattle.tta_op_circuits.specs.Cited.{Units, Operation, logic, shift, compare, Const, Solves}
 use Rattle.tta_ops.specs.Arithmetic as arithmetic
-use Rattle.tta_op_circuits.specs.Division.{with_digits}
-use Rattle.tta_op_circuits.specs.Dividing.{cut}
+use Rattle.tta_op_circuits.specs.Narrow.{narrow_cut}
 use Rattle.tta_op_circuits.specs.Worked.{is_in_order, Worked, Port, Makes, First, Second, Inner}
 use Rattle.tta_op_circuits.specs.Operations.{a, b, division, arith_circuit, divide_circuit, logic_circuit, shift_circuit, compare_circuit}
 use Rattle.tta_op_circuits.specs.Laws.{AreMade, divided, held}
-use Rattle.tta_op_circuits.proofs.Dividing.{divides_in_steps}
-use Rattle.tta_op_circuits.proofs.Stages.{stage_divides}
+use Rattle.tta_op_circuits.proofs.Narrow.{divided_at_once}
 use Rattle.tta_op_circuits.proofs.Words.{as_truth, as_untruth, upper_half, all_turned, with_sign, shifted_is, low_bits, below_is}
 
 -- an operation of a table of two parts
@@ -33,13 +31,10 @@ sums i =
 
 divided_is : (u : Units) (ms : ⊥ → List ℕ) (env : Port → ℕ) → env First < 2 ^ 32 → env Second < 2 ^ 32
     → Solves u ms env division.wires → held u ms env division.rest division.digits ≡ divided (env First) (env Second)
-unfolding with_digits
-divided_is u ms env x y solved =
-    stage_divides Port ⊥ u ms env Inner (env First) (env Second) 0 32 0 (Const 32 0) a b x y (omega arith) refl refl solved
-    ∙ divides_in_steps (env First) (env Second) x 32 0 refl
+divided_is u ms env x y solved = divided_at_once u ms env Inner (env First) (env Second) (Const 32 0) a b x y refl refl refl solved
 
 divisions : (i : ℕ) → Makes (divide_circuit i) (arithmetic.divide i).value
-unfolding is_in_order cut
+unfolding is_in_order narrow_cut
 divisions i =
     chosen (nat_eq i 0) _ _ _ _
     (record { in_order = refl; word = λ u ms env x y solved. ap (λ p. p.digits) (divided_is u ms env x y solved) })

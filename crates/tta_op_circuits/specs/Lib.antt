@@ -1,6 +1,7 @@
 pub mod Cited
 pub mod Division
 pub mod Dividing
+pub mod Narrow
 pub mod Alone
 pub mod Worked
 pub mod Operations

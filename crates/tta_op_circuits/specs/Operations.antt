@@ -1,8 +1,9 @@
 -- The operations of the standard units as circuits.
-use Rattle.std.specs.Prelude.{ℕ, ◌-◌, ◌%◌, ◌^◌, [], ◌∷◌, if◌then◌else◌, nat_eq}
+use Rattle.std.specs.Prelude.{ℕ, ◌+◌, ◌-◌, ◌/◌, ◌%◌, ◌^◌, [], ◌∷◌, if◌then◌else◌, nat_eq}
 use Rattle.tta_op_circuits.specs.Cited.{Expr, Const, Signal, Slice, Join, Select, Not, Equal, Below, Plus, Minus, Times, BitAnd, BitOr, BitXor, Left, Right}
 use Rattle.tta_op_circuits.specs.Worked.{Port, First, Second, Inner, Worked, plain}
-use Rattle.tta_op_circuits.specs.Dividing.{Cut, cut, wire}
+use Rattle.tta_op_circuits.specs.Dividing.{Cut, wire}
+use Rattle.tta_op_circuits.specs.Narrow.{narrow_cut}
 
 -- the first word
 abbrev pub a : Expr Port ⊥
@@ -40,13 +41,17 @@ amount = Slice 0 5 b
 abbrev pub with_wire : (width : ℕ) → (inner word : Expr Port ⊥) → Worked
 with_wire width inner word = record { widths = λ k. width; wires = wire (Inner 0) width inner ∷ []; word = word }
 
--- how many bits the wires of a division have
+-- how many bits the wires of a division have of which each rest has 32
 abbrev pub digit_widths : ℕ → ℕ
 digit_widths k = if nat_eq (k % 5) 0 then 33 else if nat_eq (k % 5) 1 then 1 else if nat_eq (k % 5) 2 then 33 else 32
 
+-- how many they have where no rest has more than it needs
+abbrev pub narrow_widths : ℕ → ℕ
+narrow_widths k = if nat_eq (k % 5) 1 then 1 else if nat_eq (k % 5) 4 then 32 else k / 5 + 1
+
 -- a division in one clock
 abbrev pub division : Cut Port ⊥
-division = cut Inner 32 0 (Const 32 0) a b
+division = narrow_cut Inner 32 0 0 (Const 32 0) a b
 
 -- sums and products
 abbrev pub arith_circuit : ℕ → Worked
@@ -61,8 +66,8 @@ arith_circuit i =
 -- quotients and remainders
 abbrev pub divide_circuit : ℕ → Worked
 divide_circuit i =
-    if nat_eq i 0 then record { widths = digit_widths; wires = division.wires; word = division.digits }
-    else if nat_eq i 1 then record { widths = digit_widths; wires = division.wires; word = division.rest }
+    if nat_eq i 0 then record { widths = narrow_widths; wires = division.wires; word = division.digits }
+    else if nat_eq i 1 then record { widths = narrow_widths; wires = division.wires; word = division.rest }
     else plain (Const 32 0)
 
 -- bit by bit

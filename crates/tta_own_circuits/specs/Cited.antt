@@ -3,5 +3,5 @@ pub use Rattle.tta_load.specs.Ends.{TextEnds}
 pub use Rattle.tta_load.specs.declared.status.Status.{Status}
 pub use Rattle.tta_op_circuits.specs.Worked.{Makes, Worked}
 pub use Rattle.tta_ports.specs.Output.{IsQuiet, Output}
-pub use Rattle.tta_rtl.specs.Operations.{before_word, port_names}
+pub use Rattle.tta_rtl.specs.Variables.{before_word, port_names}
 pub use Rattle.tta_verilog.specs.Expressions.{expression}

@@ -1,6 +1,7 @@
 pub mod Choices
 mod CodeFiles
 mod Digits
+mod Divisions
 mod Filled
 pub mod Layouts
 pub mod Modules

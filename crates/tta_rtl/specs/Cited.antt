@@ -12,7 +12,7 @@ pub use Rattle.tta_arch.specs.declared.parts.Op.{Op}
 pub use Rattle.tta_arch.specs.declared.parts.Op.TheVariants.{Out, Set, Stf, Stw, Take}
 pub use Rattle.tta_arch.specs.declared.parts.Template.{Template}
 pub use Rattle.tta_arch.specs.declared.parts.UnitOp.{UnitOp}
-pub use Rattle.tta_circuit.specs.Circuit.{Below, Both, Circuit, Const, Equal, Join, Memory, Plus, Select, Signal, Slice, Wire, WritePort}
+pub use Rattle.tta_circuit.specs.Circuit.{Below, Both, Circuit, Const, Equal, Expr, Join, Memory, Plus, Select, Signal, Slice, Wire, WritePort}
 pub use Rattle.tta_code.specs.Whole.{data_in}
 pub use Rattle.tta_code.specs.declared.code.Code.{Code}
 pub use Rattle.tta_code.specs.declared.whole.Datum.{Datum}
@@ -30,11 +30,14 @@ pub use Rattle.tta_image.specs.Narrow.{AreNarrow}
 pub use Rattle.tta_image.specs.Reading.{body_in, section_length, word_count}
 pub use Rattle.tta_list.specs.Laid.{over}
 pub use Rattle.tta_names.specs.Names.{names_of, place_name, signal_name, text_of}
-pub use Rattle.tta_op_circuits.specs.Operations.{arith_circuit, compare_circuit, logic_circuit, shift_circuit}
+pub use Rattle.tta_op_circuits.specs.Narrow.{brought_word, narrow_wires}
+unfoldable pub use Rattle.tta_op_circuits.specs.Narrow.{narrow_cut}
+pub use Rattle.tta_op_circuits.specs.Operations.{arith_circuit, compare_circuit, divide_circuit, logic_circuit, shift_circuit}
 pub use Rattle.tta_op_circuits.specs.Worked.{First, Inner, Makes, Port as OpPort, Second, Worked}
-pub use Rattle.tta_ops.specs.Arithmetic.{arith}
+pub use Rattle.tta_ops.specs.Arithmetic.{arith, divide}
 pub use Rattle.tta_ops.specs.Bits.{logic, shift}
 pub use Rattle.tta_ops.specs.Comparison.{compare}
+pub use Rattle.tta_ops.specs.Operation.{Operation}
 pub use Rattle.tta_ops.specs.Set.{stated}
 pub use Rattle.tta_ops.specs.Units.{Units}
 pub use Rattle.tta_verilog.specs.Circuits.{bits_text, memory_text, parts_text, register_text, store_text, wire_text}

@@ -1,6 +1,8 @@
 pub mod Cited
 pub mod Texts
 pub mod Parts
+pub mod Variables
+pub mod Dividing
 pub mod Functions
 pub mod Operations
 pub mod Memories

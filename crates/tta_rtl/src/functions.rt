@@ -5,6 +5,7 @@ ghost use Rattle.std.specs.Option.{option_map};
 ghost use Rattle.tta_ops.specs.Set.{stated};
 ghost use Rattle.tta_rtl.specs.Functions as f;
 
+use crate::dividing::push_division;
 use std::alloc::AllocError;
 use tta_arch::{Machine, Op, Unit, UnitOp};
 use tta_ops::{OpId, UnitSet};
@@ -103,7 +104,20 @@ fn comparison(name: &[u8]) -> Option<&'static [u8]>
     })
 }
 
-/// What the word of a standard operation that is no division is made of, by its name.
+/// What the word of a division is made of, by its name: the digits that its last digit leaves, or the rest.
+fn division(name: &[u8]) -> Option<&'static [u8]>
+    ensures { option_map (λ word. word.now) result ≡ f.word_in f.divisions name.now }
+{
+    if name == b"divu".as_slice() {
+        return Some(b"t_159".as_slice());
+    }
+    if name == b"remu".as_slice() {
+        return Some(b"t_158".as_slice());
+    }
+    None
+}
+
+/// What the word of a standard operation is made of, by its name.
 fn word_of(name: &[u8]) -> Option<&'static [u8]>
     ensures { option_map (λ word. word.now) result ≡ f.word_of name.now }
 {
@@ -113,12 +127,29 @@ fn word_of(name: &[u8]) -> Option<&'static [u8]>
     if let Some(word) = logic(name) {
         return Some(word);
     }
-    comparison(name)
+    if let Some(word) = comparison(name) {
+        return Some(word);
+    }
+    division(name)
 }
 
-/// The lines before that word.
-fn before_of(name: &[u8]) -> &'static [u8]
-    ensures { result.now ≡ f.before_of name.now }
+/// Whether an operation is a standard one, by its name.
+pub fn is_standard(name: &[u8]) -> bool
+    ensures { result ≡ f.is_standard name.now }
+{
+    word_of(name).is_some()
+}
+
+/// Whether it is a division.
+fn is_division(name: &[u8]) -> bool
+    ensures { result ≡ f.is_division name.now }
+{
+    division(name).is_some()
+}
+
+/// The lines before the word of an operation that is no division.
+fn before_other(name: &[u8]) -> &'static [u8]
+    ensures { result.now ≡ f.before_other name.now }
 {
     if name == b"mulhu".as_slice() {
         b"reg [63:0] t_0;\nbegin\nt_0 = ({32'd0,a})*({32'd0,b});\n".as_slice()
@@ -129,24 +160,15 @@ fn before_of(name: &[u8]) -> &'static [u8]
     }
 }
 
-/// What a division makes of the words a and b, by its name.
-fn division_of(name: &[u8]) -> Option<&'static [u8]>
-    ensures { option_map (λ made. made.now) result ≡ f.division_of name.now }
+/// Puts the lines before the word of an operation.
+fn push_before(out: &mut Vec<u8>, name: &[u8]) -> Result<(), AllocError>
+    ensures { OnOk result (out.new.items ≡ out.old.items ++ f.before_of name.now) }
 {
-    if name == b"divu".as_slice() {
-        return Some(b"(b == 32'd0) ? 32'd4294967295 : {a / b}".as_slice());
+    if is_division(name) {
+        push_division(out)
+    } else {
+        push_text(out, before_other(name))
     }
-    if name == b"remu".as_slice() {
-        return Some(b"(b == 32'd0) ? a : {a % b}".as_slice());
-    }
-    None
-}
-
-/// Whether an operation is a standard one, by its name.
-pub fn is_standard(name: &[u8]) -> bool
-    ensures { result ≡ f.is_standard name.now }
-{
-    word_of(name).is_some() || division_of(name).is_some()
 }
 
 /// Puts the lines of a function before what it makes. Functions are called by the numbers of operations.
@@ -161,13 +183,11 @@ fn start_function(out: &mut Vec<u8>, id: OpId, name: &[u8]) -> Result<(), AllocE
     push_text(out, b";\ninput [31:0] a;\ninput [31:0] b;\n")
 }
 
-/// Puts what the circuit of a standard operation makes of its two words.
-#[tactic(auto, unfolding(crate::specs::Functions::worked_text))]
-fn push_worked(out: &mut Vec<u8>, id: OpId, before: &[u8], word: &[u8]) -> Result<(), AllocError>
-    ensures { OnOk result
-        (out.new.items ≡ out.old.items ++ f.worked_text id.0 before.now word.now) }
+/// Puts the last lines of a function, which takes its word.
+#[tactic(auto, unfolding(crate::specs::Functions::function_end))]
+fn end_function(out: &mut Vec<u8>, id: OpId, word: &[u8]) -> Result<(), AllocError>
+    ensures { OnOk result (out.new.items ≡ out.old.items ++ f.function_end id.0 word.now) }
 {
-    push_text(out, before)?;
     push_text(out, b"op_")?;
     push_number(out, u64::from(id.0))?;
     push_text(out, b" = ")?;
@@ -175,16 +195,14 @@ fn push_worked(out: &mut Vec<u8>, id: OpId, before: &[u8], word: &[u8]) -> Resul
     push_text(out, b";\nend\nendfunction\n")
 }
 
-/// Puts what a division makes of its two words.
-#[tactic(auto, unfolding(crate::specs::Functions::made_text))]
-fn push_made(out: &mut Vec<u8>, id: OpId, made: &[u8]) -> Result<(), AllocError>
-    ensures { OnOk result (out.new.items ≡ out.old.items ++ f.made_text id.0 made.now) }
+/// Puts the function of a standard operation.
+fn push_standard(out: &mut Vec<u8>, id: OpId, name: &[u8], word: &[u8]) -> Result<(), AllocError>
+    ensures { OnOk result (out.new.items
+        ≡ out.old.items ++ f.standard_text id.0 name.now word.now) }
 {
-    push_text(out, b"reg [63:0] t;\nbegin\nt = ")?;
-    push_text(out, made)?;
-    push_text(out, b";\nop_")?;
-    push_number(out, u64::from(id.0))?;
-    push_text(out, b" = t[31:0];\nend\nendfunction\n")
+    start_function(out, id, name)?;
+    push_before(out, name)?;
+    end_function(out, id, word)
 }
 
 /// Puts what an operation of one's own makes of its two words.
@@ -211,26 +229,14 @@ fn push_own(out: &mut Vec<u8>, id: OpId, name: &[u8]) -> Result<(), AllocError>
     push_called(out, id, name)
 }
 
-/// Puts the function of a division or of an operation of one's own, by its name.
-fn push_other(out: &mut Vec<u8>, id: OpId, name: &[u8]) -> Result<(), AllocError>
-    ensures { OnOk result (out.new.items ≡ out.old.items ++ f.other_text id.0 name.now) }
-{
-    let Some(made) = division_of(name) else {
-        return push_own(out, id, name);
-    };
-    start_function(out, id, name)?;
-    push_made(out, id, made)
-}
-
 /// Puts the function of an operation by its name.
 pub fn push_function(out: &mut Vec<u8>, id: OpId, name: &[u8]) -> Result<(), AllocError>
     ensures { OnOk result (out.new.items ≡ out.old.items ++ f.operation_text id.0 name.now) }
 {
-    let Some(word) = word_of(name) else {
-        return push_other(out, id, name);
-    };
-    start_function(out, id, name)?;
-    push_worked(out, id, before_of(name), word)
+    match word_of(name) {
+        Some(word) => push_standard(out, id, name, word),
+        None => push_own(out, id, name),
+    }
 }
 
 /// Puts the function of an operation, if the machine offers it.

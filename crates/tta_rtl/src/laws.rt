@@ -14,7 +14,7 @@ pub fn file_is_full()
     ensures { FileIsFull }
 {}
 
-/// The function of a standard operation that is no division is the text of a circuit that makes it.
+/// The function of each standard operation is the text of a circuit that makes it.
 pub fn functions_are_circuits()
     ensures { FunctionsAreCircuits }
 {}

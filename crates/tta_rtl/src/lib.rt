@@ -6,6 +6,8 @@ mod bytes;
 mod code_file;
 mod coming;
 mod control;
+mod digit_lines;
+mod dividing;
 mod dues;
 mod fields;
 mod functions;
