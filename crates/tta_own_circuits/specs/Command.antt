@@ -5,10 +5,16 @@ use Rattle.tta_own_circuits.specs.Cited.{Worked, IsQuiet, Output, Status, TextEn
 use Rattle.tta_load.specs.declared.status.Status.TheVariants as status
 use Rattle.tta_own_circuits.specs.Texts.{function_of}
 
--- whether words begin with the name of the command
+-- whether words begin with the name of the command, and whether with that of `rtl`
+abbrev pub begin_with : (name : List ℕ) → List (List ℕ) → Bool
+begin_with name [] = false
+begin_with name (first ∷ words) = bytes_eq first name
+
 abbrev pub is_circuit : List (List ℕ) → Bool
-is_circuit [] = false
-is_circuit (first ∷ words) = bytes_eq first (codes "circuit")
+is_circuit words = begin_with (codes "circuit") words
+
+abbrev pub is_rtl : List (List ℕ) → Bool
+is_rtl words = begin_with (codes "rtl") words
 
 -- the name of the operation that such words ask for, if there is one and no more
 abbrev pub asked : List (List ℕ) → Option (List ℕ)

@@ -21,6 +21,16 @@ pub fn is_circuit(words: &Vec<String>) -> bool
     }
 }
 
+/// Whether the words begin with the name of the command `rtl`.
+pub fn is_rtl(words: &Vec<String>) -> bool
+    ensures { result ≡ c.is_rtl (map (λ w. string_bytes w) words.now.items) }
+{
+    match words.as_slice() {
+        [first, ..] => first.as_str() == "rtl",
+        _ => false,
+    }
+}
+
 /// The name of the operation that the words ask for.
 fn name_in<'w>(words: &'w [String]) -> Option<&'w str>
     ensures { option_map (λ s. s.now) result ≡ c.asked (map (λ w. string_bytes w) words.now) }

@@ -3,6 +3,8 @@
 //! the number of the status. The commands that show are carried out here too.
 #![tactic(auto)]
 
+mod circuits;
+
 use std::alloc::{AllocError, Global};
 use std::env;
 use std::io::ErrorKind;
@@ -12,7 +14,6 @@ use tta_bits::Bits;
 use tta_inspect::{is_named, show};
 use tta_load::Status;
 use tta_ops::{Arith, Compare, Divide, Logic, OpUnit, OpsError, Shift, UnitSet};
-use tta_own_circuits::{is_circuit, show_function};
 use tta_ports::{Files, RealFiles, RealSink, Sink};
 use tta_stdin::{Lines, RealLines};
 use tta_tool::tool;
@@ -36,7 +37,7 @@ fn words_of(rt: &(impl Env + AllocGlobal)) -> Result<Vec<String>, Status> {
 /// Carries out the words over the units: those that `show` knows by their first, and all others as
 /// `tool` does.
 ///
-/// The function of an operation by its circuit is put here too.
+/// The commands of circuits are carried out beside them.
 fn carry_out<F: Files, L: Lines, S: Sink>(
     alloc: Global,
     words: &Vec<String>,
@@ -46,7 +47,7 @@ fn carry_out<F: Files, L: Lines, S: Sink>(
     sink: &mut S,
 ) -> Status {
     match words {
-        _ if is_circuit(words) => show_function(alloc, words, &Bits, sink),
+        _ if circuits::is_asked(words) => circuits::put(alloc, words, units, files, lines, sink),
         _ if is_named(words) => show(alloc, words, units, files, lines, sink),
         _ => tool(alloc, words, units, files, sink),
     }
