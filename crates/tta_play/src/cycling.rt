@@ -17,7 +17,8 @@ use crate::state::push_state;
 use crate::words::push_number;
 use std::alloc::AllocError;
 use tta_pages::{fit, keep_within};
-use tta_profile::{Basis, first_of, left_of, went_on};
+use tta_profile::{Basis, went_on};
+use tta_run::{first_of, left_of};
 use tta_sim::{CycleStep, Sim};
 
 /// Puts a word that is output.

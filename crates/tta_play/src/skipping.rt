@@ -9,7 +9,8 @@ ghost use Rattle.tta_play.specs.Controls.{Follows};
 ghost use Rattle.tta_play.specs.Steps.{IsAt};
 
 use crate::control::{UnderWay, cycle_followed};
-use tta_profile::{Basis, first_of, left_of, went_on};
+use tta_profile::{Basis, went_on};
+use tta_run::{first_of, left_of};
 use tta_sim::Sim;
 
 /// Carries out so many cycles of a run, or as many as there are until it is over, and gives what is left

@@ -15,7 +15,6 @@ ghost use Rattle.tta_profile.specs.Outside.{AreOutside};
 ghost use Rattle.tta_profile.specs.Steps.{AreSmall, AreSmallOutside, Goes, GoesOutside};
 
 use crate::counts::Counts;
-use crate::feed::{first_of, left_of};
 use crate::following::{Followed, note_carried};
 use crate::outside::count_outside;
 use crate::stopped::stopped_of;
@@ -24,6 +23,7 @@ use tta_arch::Machine;
 use tta_code::{Code, Instruction};
 use tta_ops::UnitSet;
 use tta_places::{coming, slots_of, write_made};
+use tta_run::{first_of, left_of};
 use tta_sim::{CycleStep, Sim};
 
 /// What a run stands on.

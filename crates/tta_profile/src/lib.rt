@@ -16,7 +16,7 @@ mod uses;
 
 pub use counting::{Basis, Went};
 pub use counts::Counts;
-pub use feed::{first_of, left_of, went_on};
+pub use feed::went_on;
 pub use hot::Hot;
 pub use profiling::{count_run, profile};
 pub use report::words_of;

@@ -23,7 +23,8 @@ use std::alloc::{AllocError, Global};
 use tta_arch::Machine;
 use tta_code::Instruction;
 use tta_places::{Row, coming, push_carried, slots_of, write_made};
-use tta_profile::{Basis, first_of, left_of, went_on};
+use tta_profile::{Basis, went_on};
+use tta_run::{first_of, left_of};
 use tta_sim::{CycleStep, Sim};
 
 /// A dump that is written, and what it needs to know of its run beside the run itself: the signals that
