@@ -19,7 +19,8 @@ use Rattle.tta_boxed_rtl.specs.Left.{all_left}
 use Rattle.tta_boxed_rtl.specs.Texts.{due_line, due_next, from_becomes, from_line, left_lines, plain_lines, port_line, port_next, unit_lines}
 use Rattle.tta_boxed_rtl.specs.Beside.{made_line}
 use Rattle.tta_boxed_rtl.specs.Parts.{circuit_by, registers_lines}
-use Rattle.tta_boxed_rtl.proofs.Lists.{by_both, by_each, each_by}
+use Rattle.tta_trap_rtl.proofs.Wires.{by_each}
+use Rattle.tta_boxed_rtl.proofs.Lists.{by_both, each_by}
 
 -- ---- lines
 

@@ -1,7 +1,7 @@
 -- Texts of lists.
 use Rattle.std.proofs.Common.{◌≡◌, ◌+◌, ◌-◌, ◌<◌, ◌++◌, ◌∷◌, [], ℕ, zero, suc, List, map, refl, sym, ap, ◌∙◌, arith}
 use Rattle.std.specs.List.{flat_map, range_with_len}
-use Rattle.std.proofs.lemmas.Grind.{flat_map-append}
+use Rattle.tta_trap_rtl.proofs.Wires.{by_each}
 
 -- texts of what is made of elements, one element after another
 pub each_by : {A B : Type 0} (g : B → List ℕ) (f : A → B) (line : A → List ℕ) → ((x : A) → g (f x) ≡ line x) → (xs : List A)
@@ -9,14 +9,6 @@ pub each_by : {A B : Type 0} (g : B → List ℕ) (f : A → B) (line : A → Li
 each_by g f line is [] = refl
 each_by g f line is (x ∷ xs) =
     ap (λ (t : List ℕ). t ++ flat_map g (map f xs)) (is x) ∙ ap (λ (t : List ℕ). line x ++ t) (each_by g f line is xs)
-
--- texts of lists, one list after another
-pub by_each : {A B : Type 0} (g : B → List ℕ) (f : A → List B) (line : A → List ℕ) → ((x : A) → flat_map g (f x) ≡ line x) → (xs : List A)
-    → flat_map g (flat_map f xs) ≡ flat_map line xs
-by_each g f line is [] = refl
-by_each g f line is (x ∷ xs) =
-    flat_map-append g (f x) (flat_map f xs) ∙ ap (λ (t : List ℕ). t ++ flat_map g (flat_map f xs)) (is x)
-    ∙ ap (λ (t : List ℕ). line x ++ t) (by_each g f line is xs)
 
 -- texts of two lists that are made of each element, and have one text
 pub by_both : {A B C : Type 0} (g : B → List ℕ) (h : C → List ℕ) (f : A → List B) (k : A → List C)

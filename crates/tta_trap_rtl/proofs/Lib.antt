@@ -1,4 +1,4 @@
-mod Wires
+pub mod Wires
 mod Registers
 mod Finds
 mod Modules
