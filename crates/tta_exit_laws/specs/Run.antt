@@ -5,7 +5,7 @@ use Rattle.tta_code.specs.Cycle.{State, Running, Halted, Waiting, Fault}
 use Rattle.tta_load.specs.declared.status.Status.TheVariants as status
 use Rattle.tta_load.specs.Held.{IsTooLong}
 use Rattle.tta_load.specs.Endings.{OfMachine}
-use Rattle.tta_tool.specs.Cycles.{run_text}
+use Rattle.tta_code_run.specs.Cycles.{run_text}
 
 -- files hold all that is run, and something is true of the state to which it has come
 abbrev pub HasCycled : Units → (files : Option Store) → (M IMG IN : List ℕ) → (STREAM : Option (List ℕ)) → (bound : ℕ) → (Is : State → Type 0) → Type 0

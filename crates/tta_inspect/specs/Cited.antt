@@ -5,7 +5,7 @@ pub use Rattle.tta_block_profile.specs.Statement.{IsBlockProfile}
 pub use Rattle.tta_build.specs.Statement.{HasCause, IsBuilt}
 pub use Rattle.tta_code.specs.Cycle.{State, start}
 pub use Rattle.tta_code.specs.Legal.{IsLegalCode, IsLegalWhole}
-pub use Rattle.tta_code.specs.Whole.{Whole, data_in, laid_by}
+pub use Rattle.tta_code.specs.Whole.{Whole, data_in}
 pub use Rattle.tta_code.specs.declared.whole.Datum.{Datum}
 pub use Rattle.tta_kahn.specs.declared.cores.Core.{Core}
 unfoldable pub use Rattle.tta_cost.specs.CostText.{cost_text}
@@ -16,9 +16,9 @@ unfoldable pub use Rattle.tta_draw.specs.MachinePicture.{picture_of_machine}
 pub use Rattle.tta_draw.specs.declared.remark.Remark.{Remark}
 pub use Rattle.tta_load.specs.Endings.{HasThree, OfNamed, OfPair, PairFault, RunFault}
 pub use Rattle.tta_load.specs.Ends.{IsUsage, Puts, TextEnds}
-pub use Rattle.tta_load.specs.Held.{FileFails, HasText, IsHeld, IsTaken, IsTooLong, MadeEnds, ReadFailed, ReadFails, TakesBytes, no_memory}
+pub use Rattle.tta_load.specs.Held.{FileFails, HasText, IsTaken, IsTooLong, MadeEnds, ReadFailed, ReadFails, no_memory}
 pub use Rattle.tta_load.specs.Images.{IsImageFor, RefusesImage}
-pub use Rattle.tta_load.specs.Inputs.{Fills, GivenFails, HasInput, IsInput, IsStream, ReadsGiven, RefusesInput, RefusesStream}
+pub use Rattle.tta_load.specs.Inputs.{GivenFails, ReadsGiven, RefusesInput, RefusesStream}
 pub use Rattle.tta_load.specs.Machines.{HasMachine, IsBadMachine, MachineFails, RefusesMachine}
 pub use Rattle.tta_load.specs.Pairs.{HasPair, PairFails, ReadsPair}
 pub use Rattle.tta_load.specs.Programs.{IsBadProgram, IsOutside, IsProgramFor, RefusesProgramFor}

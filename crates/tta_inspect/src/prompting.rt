@@ -11,8 +11,8 @@ ghost use Rattle.tta_inspect.specs.Prompts.{FilesEnd, OpensPrompt};
 ghost use Rattle.tta_inspect.specs.Prompts.{EndsAs, SessionEnds};
 
 use crate::names::PromptRequest;
-use crate::running::load_code;
 use std::alloc::Global;
+use tta_code_run::load_code;
 use tta_debug::{Basis, Session};
 use tta_load::{CodePair, Given, Status, data_words, given_files, image_pair};
 use tta_ops::UnitSet;

@@ -1,13 +1,11 @@
 //! The commands `profile`, `play` and `waves`: the code of an image, or of a program, is run cycle by cycle,
 //! and it is told where the cycles go, or a page is made that plays them, or a dump of their signals.
 
-ghost use Rattle.std.specs.Prelude.{◌≡◌, ◌+◌, ◌<◌, ◌^◌, ℕ, List, [], None, length, option_map, IfOk};
-ghost use Rattle.tta_list.specs.Laid.{over};
+ghost use Rattle.std.specs.Prelude.{◌≡◌, ◌+◌, ◌<◌, ◌^◌, [], None, length, option_map};
 ghost use Rattle.tta_ops.specs.Set.{stated};
 ghost use Rattle.tta_arch.specs.Over as machines;
-ghost use Rattle.tta_code.specs.Cycle.{State, start};
+ghost use Rattle.tta_code.specs.Cycle.{State};
 ghost use Rattle.tta_code.specs.Legal.{IsLegalCode};
-ghost use Rattle.tta_code.specs.Whole.{data_in};
 ghost use Rattle.tta_sim.specs.Held.{Stands, IsRunOf};
 ghost use Rattle.tta_load.specs.Held.{MadeEnds, no_memory};
 ghost use Rattle.tta_load.specs.Runs.{GivenRuns};
@@ -19,9 +17,9 @@ use crate::compiled::text_of_program;
 use crate::names::RunRequest;
 use crate::subject::{Subject, SubjectPair, subject_pair};
 use crate::view::RunView;
-use std::alloc::{AllocError, Global};
-use tta_arch::Machine;
-use tta_code::{Whole, lay};
+use std::alloc::Global;
+use tta_code::Whole;
+use tta_code_run::load_code;
 use tta_load::{Given, MachineFile, Status, data_words, given_files, put_made};
 use tta_ops::UnitSet;
 use tta_play::{ProgramTexts, Span, play, play_after};
@@ -29,24 +27,6 @@ use tta_ports::{Files, Sink};
 use tta_profile::{Basis, profile};
 use tta_sim::Sim;
 use tta_waves::waves;
-
-/// Loads code for a run from data words, with its data laid over them.
-pub fn load_code(
-    alloc: Global,
-    machine: &Machine,
-    whole: &Whole,
-    memory: Vec<u32>,
-) -> Result<Sim, AllocError>
-    requires size { length memory.items ≡ machine.now.data_words }
-    requires legal { IsLegalCode machine.now whole.now.code }
-    ensures start { IfOk result (λ r. (input : List ℕ)
-        → Stands r (start machine.now (over (data_in whole.now) memory.items) input)) }
-    ensures loaded { IfOk result (λ r. IsRunOf machine.now whole.now.code r) }
-{
-    let mut laid = memory;
-    lay(whole.init.as_slice(), &mut laid);
-    Sim::load(alloc, machine, &whole.code, laid)
-}
 
 /// The view of a run of this code.
 fn text_of_basis(

@@ -5,7 +5,7 @@ use Rattle.tta_code.specs.Cycle as code
 use Rattle.tta_tool.specs.Cited.{Ended}
 use Rattle.tta_run.specs.declared.ended.Ended.TheVariants as ended
 use Rattle.tta_tool.specs.Steps as steps
-use Rattle.tta_tool.specs.Cycles as cycles
+use Rattle.tta_code_run.specs.Cycles as cycles
 
 -- ---- of a program; it is at no fault
 

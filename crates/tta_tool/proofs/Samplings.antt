@@ -9,7 +9,7 @@ use Rattle.tta_tacrun.specs.Run as sequential
 use Rattle.tta_sim.specs.Held as simulated
 use Rattle.tta_load.specs.declared.status.Status.TheVariants as status
 use Rattle.tta_tool.specs.Steps as steps
-use Rattle.tta_tool.specs.Cycles as cycles
+use Rattle.tta_code_run.specs.Cycles as cycles
 use Rattle.tta_tool.specs.Sample.{zeros, program_after, code_after, summary, HasRun, HasCycled, StandAlike, CompareEnds}
 use Rattle.tta_tool.proofs.ProgramSteps.{halts_by_its_steps}
 

@@ -1,17 +1,12 @@
 -- What the definitions and lemmas of this crate cite of other crates, passed on from one place. Declares nothing.
 pub use Rattle.tta_refines.specs.Agrees.{HaltAlike, IsGiven, code_at, program_at}
-pub use Rattle.tta_arch.specs.Effects.{Brought, Calls, Halts, Jumps, Kind, Start, Written, bring, control_of, first_some, put_out, start_of, write_of}
 pub use Rattle.tta_arch.specs.Machine.{Machine}
-pub use Rattle.tta_arch.specs.declared.parts.Op.{Op}
-pub use Rattle.tta_arch.specs.declared.parts.Op.TheVariants.{Out}
 unfoldable pub use Rattle.tta_disasm.specs.Canonical.{canonical}
 pub use Rattle.tta_build.specs.Converted.{HasCauseWith, IsBuiltWith}
 pub use Rattle.tta_build.specs.Statement.{IsBuilt}
 pub use Rattle.tta_check.specs.Verdict.{IsSafe, IsUnsafe, NeverFaults}
-pub use Rattle.tta_code.specs.Cycle.{Fault, Pending, acts, cyc, effects_of, fault_of, lands, or_fault, or_wait, pending_after, read_source, takes_effect}
-pub use Rattle.tta_code.specs.Whole.{Whole, data_in, laid_by}
-pub use Rattle.tta_code.specs.declared.code.Code.{Code}
-pub use Rattle.tta_code.specs.declared.code.Instruction.{Instruction}
+pub use Rattle.tta_code.specs.Cycle.{Fault, cyc}
+pub use Rattle.tta_code.specs.Whole.{Whole, data_in}
 pub use Rattle.tta_debug.specs.Debugged.{Debugged}
 pub use Rattle.tta_debug.specs.Sessions.{Follows, Session'}
 pub use Rattle.tta_load.specs.Assemblies.{IsAssemblyFor, RefusesAssembly}

@@ -7,8 +7,6 @@ pub mod Check
 pub mod Numbers
 pub mod Steps
 pub mod StepLaws
-pub mod Cycles
-pub mod CycleLaws
 pub mod Runs
 pub mod Exec
 pub mod Run

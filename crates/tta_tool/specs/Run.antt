@@ -1,7 +1,7 @@
 -- What the command `run` does, and why it does not.
 use Rattle.std.specs.Prelude.{ℕ, List, Option}
 use Rattle.tta_tool.specs.Cited.{World, Output, Units, Whole, code_at, MachineFile, Status, IsImageFor, RefusesImage, PairRuns}
-use Rattle.tta_tool.specs.Cycles.{ended_of, run_text}
+use Rattle.tta_code_run.specs.Cycles.{ended_of, run_text}
 use Rattle.tta_tool.specs.Runs.{ReportEnds}
 
 -- how code reports from these data words and with this input: from the state to which it has come after so many cycles, its data

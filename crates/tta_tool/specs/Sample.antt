@@ -9,7 +9,7 @@ use Rattle.tta_sim.specs.Held as simulated
 use Rattle.tta_load.specs.declared.status.Status.TheVariants as status
 use Rattle.tta_tool.specs.Build.{IsCauseOf}
 use Rattle.tta_tool.specs.Steps as steps
-use Rattle.tta_tool.specs.Cycles as cycles
+use Rattle.tta_code_run.specs.Cycles as cycles
 
 -- ---- the two runs
 

@@ -12,10 +12,10 @@ ghost use Rattle.tta_load.specs.Ends.{PutEnds};
 ghost use Rattle.tta_tool.specs.Sample.{zeros, summary, HasRun, HasCycled, StandAlike};
 ghost use Rattle.tta_tool.specs.Sample.{CompareEnds};
 
-use crate::code_run::{CodeRun, load_code};
 use crate::program_run::{ProgramRun, load_program};
 use std::alloc::{AllocError, Global};
 use tta_code::Whole;
+use tta_code_run::{CodeRun, load_code};
 use tta_load::{Status, data_words};
 use tta_machine::Machine;
 use tta_ops::UnitSet;

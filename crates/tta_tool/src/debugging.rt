@@ -10,10 +10,10 @@ ghost use Rattle.tta_debug.specs.Sessions.{Follows};
 ghost use Rattle.tta_tool.specs.Debug.{said, ScriptEnds, AskedEnds, EndsAs, SessionEnds};
 ghost use Rattle.tta_tool.specs.Debug.{AskedRuns, Debugs};
 
-use crate::code_run::load_code;
 use crate::names::SessionRequest;
 use std::alloc::Global;
 use tta_code::Code;
+use tta_code_run::load_code;
 use tta_debug::{Session, run_script};
 use tta_load::{CodePair, Status, data_words, image_pair, input_file, read_file, stream_file};
 use tta_machine::Machine;

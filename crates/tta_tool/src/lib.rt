@@ -4,7 +4,6 @@
 mod asm;
 mod build;
 mod checking;
-mod code_run;
 mod command;
 mod comparing;
 mod debugging;

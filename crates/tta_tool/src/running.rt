@@ -6,10 +6,10 @@ ghost use Rattle.tta_code.specs.Legal.{IsLegalCode};
 ghost use Rattle.tta_load.specs.Runs.{GivenRuns};
 ghost use Rattle.tta_tool.specs.Run.{Reports, Runs};
 
-use crate::code_run::{CodeRun, load_code};
 use crate::names::RunRequest;
 use crate::report::run_to_status;
 use std::alloc::Global;
+use tta_code_run::{CodeRun, load_code};
 use tta_load::{CodePair, Given, Status, data_words, given_files, image_pair};
 use tta_ops::UnitSet;
 use tta_ports::{Files, Sink};

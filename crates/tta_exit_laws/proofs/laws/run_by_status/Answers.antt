@@ -4,7 +4,7 @@ use Rattle.tta_run.specs.declared.ended.Ended.TheVariants as ended
 use Rattle.tta_load.specs.declared.status.Status.TheVariants as status
 use Rattle.tta_load.specs.Held.{IsTooLong}
 use Rattle.tta_load.proofs.Stages.{none}
-use Rattle.tta_tool.specs.Cycles.{ended_of}
+use Rattle.tta_code_run.specs.Cycles.{ended_of}
 use Rattle.tta_tool.specs.Run.{Reports}
 use Rattle.tta_exit_laws.specs.Run.{RunEndings}
 use Rattle.tta_tool.proofs.Outcomes.{code_ended}

@@ -1,6 +1,6 @@
 use Rattle.std.proofs.Common.{ap}
 use Rattle.tta_exit_laws.specs.Cited.{code_at, IsImageFor, RefusesImage}
-use Rattle.tta_tool.specs.Cycles.{ended_of, run_text}
+use Rattle.tta_code_run.specs.Cycles.{ended_of, run_text}
 use Rattle.tta_tool.specs.Run.{Reports}
 use Rattle.tta_exit_laws.proofs.PairsTaken.{image_only, one_whole}
 use Rattle.tta_exit_laws.proofs.RunsTaken.{report_only, runs_only}

@@ -2,7 +2,7 @@ use Rattle.std.proofs.Common.{[], refl, ap, ◌∙◌, subst}
 use Rattle.tta_tool.specs.Cited.{stated, over, Whole, data_in, Keeps}
 use Rattle.tta_code.specs.Cycle.{start}
 use Rattle.tta_sim.specs.Held.{Stands}
-use Rattle.tta_tool.specs.Cycles.{meaning_of}
+use Rattle.tta_code_run.specs.Cycles.{meaning_of}
 use Rattle.tta_tool.specs.Sample.{zeros}
 use Rattle.tta_tool.proofs.Laying.{few_cycles}
 use Rattle.tta_tool.proofs.Samplings.{has_cycled}

@@ -1,7 +1,7 @@
 use Rattle.std.proofs.Common.{ℕ, List, [], refl, subst, ap}
 use Rattle.tta_tool.specs.Cited.{CodePair, over, Whole, data_in, cyc, stated}
 use Rattle.tta_code.specs.Cycle.{start}
-use Rattle.tta_tool.specs.Cycles.{ended_of, run_text}
+use Rattle.tta_code_run.specs.Cycles.{ended_of, run_text}
 use Rattle.tta_tool.specs.Runs.{ReportEnds}
 use Rattle.tta_tool.proofs.Laying.{few_cycles}
 use Rattle.tta_tool.proofs.running.carry_out.Goals as goal

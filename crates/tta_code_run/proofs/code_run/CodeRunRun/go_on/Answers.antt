@@ -1,4 +1,4 @@
-use Rattle.tta_tool.proofs.code_run.CodeRunRun.go_on.Goals as goal
+use Rattle.tta_code_run.proofs.code_run.CodeRunRun.go_on.Goals as goal
 
 pub returns-clause-quiet : goal.returns-clause-quiet
 returns-clause-quiet g c = λ s stands.

@@ -1,6 +1,8 @@
 use Rattle.std.proofs.Common.{ℕ, List, IfOk, ap, ◌∙◌, length, subst}
-use Rattle.tta_inspect.specs.Cited.{over, laid_by, data_in, start, Stands}
-use Rattle.tta_inspect.proofs.running.load_code.Goals as goal
+use Rattle.tta_code_run.specs.Cited.{over, laid_by, data_in}
+use Rattle.tta_code.specs.Cycle.{start}
+use Rattle.tta_sim.specs.Held.{Stands}
+use Rattle.tta_code_run.proofs.code_run.load_code.Goals as goal
 use Rattle.tta_list.proofs.Sets.{over-length}
 
 pub load-requires-clause-size : goal.load-requires-clause-size

@@ -6,7 +6,7 @@ ghost use Rattle.tta_code.specs.Legal.{IsLegalCode};
 ghost use Rattle.tta_code.specs.Whole.{data_in};
 ghost use Rattle.tta_code.specs.Cycle.{start};
 ghost use Rattle.tta_sim.specs.Held.{Stands, IsRunOf};
-ghost use Rattle.tta_tool.specs.Cycles.{ended_of};
+ghost use Rattle.tta_code_run.specs.Cycles.{ended_of};
 
 use std::alloc::{AllocError, Global};
 use tta_arch::Machine;
@@ -56,8 +56,8 @@ fn ended_of(sim: &Sim) -> Ended
 impl<'a> Run for CodeRun<'a> {
     ghost use Rattle.tta_code.specs.Cycle.{State};
     ghost use Rattle.tta_sim.specs.Held.{Stands, IsRunOf};
-    ghost use Rattle.tta_tool.specs.Cycles.{Course, meaning_of, reports};
-    ghost use Rattle.tta_tool.specs.CycleLaws.{cycles_grow, cycles_wait, cycles_report};
+    ghost use Rattle.tta_code_run.specs.Cycles.{Course, meaning_of, reports};
+    ghost use Rattle.tta_code_run.specs.CycleLaws.{cycles_grow, cycles_wait, cycles_report};
 
     ghost State = { State };
 

@@ -1,9 +1,9 @@
 -- The output of code grows with each cycle, and a state that waits stays and reports that.
 use Rattle.std.proofs.Common.{◌≡◌, ℕ, ◌+◌, ◌==◌, Bool, true, false, if◌then◌else◌, List, [], ◌∷◌, ◌++◌, fold, Option, Some, None, refl, sym, ap, ◌∙◌, append_assoc, append-nil, slice_get}
 use Rattle.std.specs.List.{filter_map}
-use Rattle.tta_tool.specs.Cited.{Units, Op, Out, Machine, Kind, Jumps, Calls, Halts, Brought, Start, Written, put_out, control_of, first_some, bring, write_of, start_of, Code, Instruction, Fault, Pending, or_fault, or_wait, acts, lands, takes_effect, pending_after, effects_of, read_source, fault_of, OutputGrows, WaitStays, WaitReports}
+use Rattle.tta_code_run.specs.Cited.{Units, Op, Out, Machine, Kind, Jumps, Calls, Halts, Brought, Start, Written, put_out, control_of, first_some, bring, write_of, start_of, Code, Instruction, Fault, Pending, or_fault, or_wait, acts, lands, takes_effect, pending_after, effects_of, read_source, fault_of, OutputGrows, WaitStays, WaitReports}
 use Rattle.tta_code.specs.Cycle.{State, Outcome, Running, Halted, Waiting, next, next_of, carry_out, waits}
-use Rattle.tta_tool.specs.Cycles.{meaning_of, reports}
+use Rattle.tta_code_run.specs.Cycles.{meaning_of, reports}
 
 -- one list begins another
 abbrev Begins : List ℕ → List ℕ → Type 0

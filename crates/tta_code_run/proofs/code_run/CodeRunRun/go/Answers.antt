@@ -1,9 +1,9 @@
 use Rattle.std.proofs.Common.{ap}
-use Rattle.tta_tool.specs.Cited.{stated}
+use Rattle.tta_code_run.specs.Cited.{stated}
 use Rattle.tta_code.specs.Cycle.{State, next}
 use Rattle.tta_sim.proofs.Silent.{fault_is_quiet}
-use Rattle.tta_tool.proofs.CodeCycles.{halted_stays, fault_stays}
-use Rattle.tta_tool.proofs.code_run.CodeRunRun.go.Goals as goal
+use Rattle.tta_code_run.proofs.CodeCycles.{halted_stays, fault_stays}
+use Rattle.tta_code_run.proofs.code_run.CodeRunRun.go.Goals as goal
 
 pub returns-in-Halted-clause-leaves : goal.returns-in-Halted-clause-leaves
 returns-in-Halted-clause-leaves g c = λ s stands fed.

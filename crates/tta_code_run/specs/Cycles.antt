@@ -1,7 +1,7 @@
 -- The run of code, move by move.
 use Rattle.std.specs.Prelude.{ℕ, Bool, List, ◌++◌}
 use Rattle.tta_report.specs.declared.line.Line.TheVariants as line
-use Rattle.tta_tool.specs.Cited.{lines_text, word_lines, Units, Machine, Code, Fault, Ended, Meaning, last_text}
+use Rattle.tta_code_run.specs.Cited.{lines_text, word_lines, Units, Machine, Code, Fault, Ended, Meaning, last_text}
 use Rattle.tta_code.specs.Cycle.{State, Outcome, Running, Halted, Waiting, next}
 use Rattle.tta_run.specs.declared.ended.Ended.TheVariants as ended
 use Rattle.tta_run.specs.Loops as loops

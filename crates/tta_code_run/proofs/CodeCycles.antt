@@ -1,6 +1,6 @@
 -- Code that has halted or faulted stays.
 use Rattle.std.proofs.Common.{◌≡◌, ℕ, ap}
-use Rattle.tta_tool.specs.Cited.{Units, Machine, Code, Fault}
+use Rattle.tta_code_run.specs.Cited.{Units, Machine, Code, Fault}
 use Rattle.tta_code.specs.Cycle.{State, Halted, next, next_of}
 
 -- a state that has halted stays

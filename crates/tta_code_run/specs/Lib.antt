@@ -1,0 +1,3 @@
+pub mod Cited
+pub mod Cycles
+pub mod CycleLaws
