@@ -1,5 +1,5 @@
 -- A pair that is accepted has no cause of `build` but that of memory, and that its code is too long.
-use Rattle.std.proofs.Common.{◌≡◌, ◌⊎◌, Bool, true, ℕ, refl, inl, inr}
+use Rattle.std.proofs.Common.{◌≡◌, ◌⊎◌, Bool, true, refl, inl, inr}
 use Rattle.tta_exit_laws.specs.Cited.{Units, Machine, HasCauseWith, LacksRoomWith, IsAccepted, IsRoomy, Status, IsCauseOf}
 use Rattle.tta_program.specs.Program.{Program}
 use Rattle.tta_build.specs.declared.error.BuildError.{BuildError}

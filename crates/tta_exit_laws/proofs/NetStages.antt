@@ -1,6 +1,6 @@
 -- What the clause of `net` says at a status is what the one stage says that can end so.
 use Rattle.std.proofs.Common.{◌≡◌, ◌⊎◌, inl, inr, ℕ, Bool, true, false, List, length, Option, None, Some, refl, sym, ap, subst, ◌∙◌, ⊎_elim}
-use Rattle.tta_exit_laws.specs.Cited.{Store, World, IsUntouched, Output, IsQuiet, IsPut, IsCut, Units, Core, Network, Joined, joined, AreAtRest, cycles, first_states, Feeds, StepResult, HasEnded, Status, HasText, Held, ReadFails, ReadFailed, FileFails, HasMachine, RefusesMachine, IsImageFor, RefusesImage, RefusesInput, HasPair, AreLinks, RefusesLinks, cores_in, name_of, word_of, as_core, HasCores, CoreFileFails, CoreFails, CoresFail, net_text, rounds_status, HasMadeRounds, NetReports, Nets}
+use Rattle.tta_exit_laws.specs.Cited.{Store, World, IsUntouched, Output, IsQuiet, IsPut, IsCut, Units, Core, Network, Joined, joined, AreAtRest, cycles, first_states, Feeds, StepResult, HasEnded, Status, HasText, Held, ReadFails, ReadFailed, FileFails, HasMachine, RefusesMachine, IsImageFor, RefusesImage, RefusesInput, HasPair, AreLinks, RefusesLinks, cores_in, name_of, word_of, as_core, HasCores, CoreFileFails, CoreFails, CoresFail, net_text, rounds_status, HasMadeRounds}
 use Rattle.tta_code.specs.Cycle.{State}
 use Rattle.tta_load.specs.declared.status.Status.TheVariants as status
 use Rattle.tta_load.specs.Held.{IsTooLong}

@@ -27,8 +27,8 @@ pub use Rattle.tta_inspect.specs.declared.subject.Subject.{Subject}
 pub use Rattle.tta_inspect.specs.declared.view.RunView.{RunView}
 pub use Rattle.tta_inspect.specs.declared.view.StagesView.{StagesView}
 pub use Rattle.tta_inspect.specs.declared.view.View.{View}
-pub use Rattle.tta_load.specs.Assemblies.{IsAssemblyFor, IsBadAssembly, RefusesAssembly}
-pub use Rattle.tta_load.specs.Endings.{HasThree, OfNamed, OfPair, OfRun, PairFault, RunFault}
+pub use Rattle.tta_load.specs.Assemblies.{IsAssemblyFor, RefusesAssembly}
+pub use Rattle.tta_load.specs.Endings.{HasThree, OfNamed, OfPair, OfRun, PairFault, PairRunEndings, PutEndings, WriteEndings}
 pub use Rattle.tta_load.specs.Ends.{IsWritten, PutEnds, Puts, TextEnds, WriteFailed, Writes, WritingEnds}
 pub use Rattle.tta_load.specs.Held.{FileFails, HasText, Held, IsHeld, ReadFailed, ReadFails, limit, no_memory}
 pub use Rattle.tta_load.specs.Images.{IsImageFor, RefusesImage}
@@ -74,7 +74,7 @@ unfoldable pub use Rattle.tta_tac.specs.Text.{linked_text}
 pub use Rattle.tta_tac.specs.declared.refusal.Refusal.{Refusal}
 pub use Rattle.tta_tool.specs.Asm.{Assembles, IsAssembled}
 pub use Rattle.tta_tool.specs.Build.{Builds, IsCauseOf, IsImageOf}
-pub use Rattle.tta_tool.specs.Check.{CannotFault, ChecksCode, IsCalledSafe, IsFound}
+pub use Rattle.tta_tool.specs.Check.{ChecksCode, IsCalledSafe, IsFound}
 pub use Rattle.tta_tool.specs.Debug.{AskedRuns, Debugs, HasAsked, HasBytes, said}
 pub use Rattle.tta_tool.specs.Dis.{Shows}
 pub use Rattle.tta_tool.specs.Exec.{Execs}

@@ -14,14 +14,14 @@ pub use Rattle.tta_debug.specs.Sessions.{Session'}
 unfoldable pub use Rattle.tta_draw.specs.CodePicture.{picture_of_code}
 unfoldable pub use Rattle.tta_draw.specs.MachinePicture.{picture_of_machine}
 pub use Rattle.tta_draw.specs.declared.remark.Remark.{Remark}
-pub use Rattle.tta_load.specs.Endings.{HasThree, OfNamed, OfPair, PairFault, RunFault}
+pub use Rattle.tta_load.specs.Endings.{HasThree, OfNamed, OfPair, PairFault, PairRunEndings, PutEndings, TextRows}
 pub use Rattle.tta_load.specs.Ends.{IsUsage, Puts, TextEnds}
 pub use Rattle.tta_load.specs.Held.{FileFails, HasText, IsTaken, IsTooLong, MadeEnds, ReadFailed, ReadFails, no_memory}
 pub use Rattle.tta_load.specs.Images.{IsImageFor, RefusesImage}
 pub use Rattle.tta_load.specs.Inputs.{GivenFails, ReadsGiven, RefusesInput, RefusesStream}
 pub use Rattle.tta_load.specs.Machines.{HasMachine, IsBadMachine, MachineFails, RefusesMachine}
 pub use Rattle.tta_load.specs.Pairs.{HasPair, PairFails, ReadsPair}
-pub use Rattle.tta_load.specs.Programs.{IsBadProgram, IsOutside, IsProgramFor, RefusesProgramFor}
+pub use Rattle.tta_load.specs.Programs.{IsProgramFor, RefusesProgramFor}
 pub use Rattle.tta_load.specs.Runs.{HasGiven, PairRuns, bound_of}
 pub use Rattle.tta_load.specs.declared.machine.MachineFile.{MachineFile}
 pub use Rattle.tta_load.specs.declared.pair.CodePair.{CodePair}

@@ -1,6 +1,6 @@
 -- How a command ends.
-use Rattle.std.specs.Prelude.{◌≡◌, ◌⊎◌, ◌↔◌, List, ℕ, Option, Some, None, Err}
-use Rattle.tta_inspect.specs.Cited.{World, IsUntouched, Output, IsQuiet, IsPut, IsCut, Come, Units, Whole, Refused, decoded_image, MachineFile, Status, HasText, ReadFailed, IsTooLong, no_memory, IsBadMachine, HasMachine, MachineFails, IsImageFor, RefusesImage, IsUsage, TextEnds, Puts}
+use Rattle.std.specs.Prelude.{◌≡◌, ◌⊎◌, ◌↔◌, List, ℕ, Option, Some, None}
+use Rattle.tta_inspect.specs.Cited.{World, IsUntouched, Output, IsQuiet, IsPut, IsCut, Come, Units, Whole, MachineFile, Status, HasText, ReadFailed, IsTooLong, no_memory, IsBadMachine, HasMachine, MachineFails, IsImageFor, RefusesImage, IsUsage, TextEnds, Puts}
 use Rattle.tta_load.specs.declared.status.Status.TheVariants as status
 use Rattle.tta_load.specs.Endings as endings
 use Rattle.tta_inspect.specs.declared.view.View.{View}
@@ -62,23 +62,8 @@ MachineEndings u view M before after old new s = ⊥
 
 -- what holds where `info M IMG` ends with a status
 abbrev pub InfoEndings : Units → (M IMG : List ℕ) → (before after : World) → (old new : Output) → Status → Type 0
-InfoEndings u M IMG before after old new status.Ok =
-    IsUntouched before after
-    × endings.OfPair u IsImageFor before.contents M IMG (λ file whole. IsPut (told_of file whole) old new)
-InfoEndings u M IMG before after old new (status.BadMachine line code) =
-    IsUntouched before after × IsQuiet old new × HasText before.contents M (λ text. IsBadMachine u text line code)
-InfoEndings u M IMG before after old new (status.BadImage code word bus) =
-    IsUntouched before after × IsQuiet old new
-    × endings.OfMachine u before.contents M (λ file. HasText before.contents IMG (λ bytes. decoded_image file.machine file.digest bytes ≡ Err (Refused code word bus)))
-InfoEndings u M IMG before after old new (status.ReadFault word) =
-    IsQuiet old new × endings.PairFault u before.contents M IMG (λ name. ReadFailed name before after) word
-InfoEndings u M IMG before after old new status.WriteFault =
-    IsUntouched before after
-    × endings.OfPair u IsImageFor before.contents M IMG (λ file whole. IsCut (told_of file whole) old new)
-InfoEndings u M IMG before after old new (status.TooLong word) =
-    IsQuiet old new × endings.PairFault u before.contents M IMG (λ name. IsTooLong name before after) word
-InfoEndings u M IMG before after old new status.NoMemory = IsUntouched before after × IsQuiet old new
-InfoEndings u M IMG before after old new s = ⊥
+InfoEndings u M IMG before after old new s =
+    endings.PutEndings u IsImageFor RefusesImage IsTold (λ file whole. no_memory) M IMG before after old new s
 
 -- the command ends so with each status
 abbrev pub MachineByStatus : Type 0

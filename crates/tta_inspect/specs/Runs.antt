@@ -1,10 +1,8 @@
 -- What `profile`, `play` and `waves` do, and why they do not.
-use Rattle.std.specs.Prelude.{◌≡◌, ◌↔◌, ℕ, List, [], Option, Err}
-use Rattle.tta_inspect.specs.Cited.{input_of, stream_of, over, Store, World, IsUntouched, Output, IsQuiet, IsPut, IsCut, Units, Machine, Whole, data_in, State, start, data_of, Stages, AreStages, stages_text, origins_text, IsProfile, IsBlockProfile, page_after, page_of, waves_of, MachineFile, Status, HasText, ReadFailed, IsTooLong, no_memory, IsBadMachine, TextEnds, PairRuns, OfPair, HasThree, OfNamed, RunFault}
+use Rattle.std.specs.Prelude.{◌≡◌, ◌↔◌, ℕ, List, [], Option}
+use Rattle.tta_inspect.specs.Cited.{over, World, Output, Units, Machine, Whole, data_in, State, start, data_of, Stages, AreStages, stages_text, origins_text, IsProfile, IsBlockProfile, page_after, page_of, waves_of, MachineFile, Status, no_memory, TextEnds, PairRuns, TextRows, PairRunEndings}
 use Rattle.tta_code.specs.declared.code.Code.{Code}
 use Rattle.tta_program.specs.Program.{Program}
-use Rattle.tta_load.specs.declared.status.Status.TheVariants as status
-use Rattle.tta_load.specs.Endings.{OfMachine, OfRun}
 use Rattle.tta_inspect.specs.declared.subject.Subject.{Subject}
 use Rattle.tta_inspect.specs.declared.subject.Subject.TheVariants.{Code as OfCode, Program as OfProgram}
 use Rattle.tta_inspect.specs.Subjects.{IsSubject, RefusesSubject}
@@ -67,53 +65,12 @@ ShowsRun u view M F IN STREAM bound before after old new s =
 
 -- ---- how it ends by its status
 
--- files hold all that is run, and something is true of what is shown of it
-abbrev pub HasView : Units → RunView → (files : Option Store) → (M F IN : List ℕ) → (STREAM : Option (List ℕ)) → (bound : ℕ) → (Is : List ℕ → Type 0) → Type 0
-HasView u view files M F IN STREAM bound Is =
-    OfRun u (IsSubject u) files M F IN STREAM (λ file subject memory words. (text : List ℕ) × IsShown u view bound file subject memory words text × Is text)
-
--- files hold all that is run, and nothing is shown of it for a cause
-abbrev pub HasLack : Units → (files : Option Store) → (M F IN : List ℕ) → (STREAM : Option (List ℕ)) → Status → Type 0
-HasLack u files M F IN STREAM s = OfRun u (IsSubject u) files M F IN STREAM (λ file subject memory words. Lacks u file subject s)
-
--- a file holds a machine, and what another holds for it is refused
-abbrev pub HasRefused : Units → (files : Option Store) → (M F : List ℕ) → Status → Type 0
-HasRefused u files M F s = OfMachine u files M (λ file. HasText files F (λ bytes. RefusesSubject u file bytes s))
-
 -- what holds where such a command ends with a status
 abbrev pub RunEndings : Units → RunView → (M F IN : List ℕ) → (STREAM : Option (List ℕ)) → (bound : ℕ) → (before after : World) → (old new : Output) → Status → Type 0
-RunEndings u view M F IN STREAM bound before after old new status.Ok =
-    IsUntouched before after × HasView u view before.contents M F IN STREAM bound (λ text. IsPut text old new)
-RunEndings u view M F IN STREAM bound before after old new (status.BadMachine line code) =
-    IsUntouched before after × IsQuiet old new × HasText before.contents M (λ text. IsBadMachine u text line code)
-RunEndings u view M F IN STREAM bound before after old new (status.BadImage code word bus) =
-    IsUntouched before after × IsQuiet old new × HasRefused u before.contents M F (status.BadImage code word bus)
-RunEndings u view M F IN STREAM bound before after old new (status.BadProgram line code) =
-    IsUntouched before after × IsQuiet old new × HasRefused u before.contents M F (status.BadProgram line code)
-RunEndings u view M F IN STREAM bound before after old new (status.DataRange line have) =
-    IsUntouched before after × IsQuiet old new × HasRefused u before.contents M F (status.DataRange line have)
-RunEndings u view M F IN STREAM bound before after old new (status.BadInput line) =
-    IsUntouched before after × IsQuiet old new
-    × OfPair u (IsSubject u) before.contents M F (λ file subject. HasText before.contents IN (λ bytes. input_of file.machine.data_words bytes ≡ Err line))
-RunEndings u view M F IN STREAM bound before after old new (status.BadStream line) =
-    IsUntouched before after × IsQuiet old new × HasThree u (IsSubject u) before.contents M F IN
-    × OfNamed STREAM (λ name. HasText before.contents name (λ bytes. stream_of bytes ≡ Err line))
-RunEndings u view M F IN STREAM bound before after old new (status.NotCovered rule) =
-    IsUntouched before after × IsQuiet old new × HasLack u before.contents M F IN STREAM (status.NotCovered rule)
-RunEndings u view M F IN STREAM bound before after old new (status.NoUnit line) =
-    IsUntouched before after × IsQuiet old new × HasLack u before.contents M F IN STREAM (status.NoUnit line)
-RunEndings u view M F IN STREAM bound before after old new (status.FrameFull need have) =
-    IsUntouched before after × IsQuiet old new × HasLack u before.contents M F IN STREAM (status.FrameFull need have)
-RunEndings u view M F IN STREAM bound before after old new (status.CodeFull words have) =
-    IsUntouched before after × IsQuiet old new × HasLack u before.contents M F IN STREAM (status.CodeFull words have)
-RunEndings u view M F IN STREAM bound before after old new (status.ReadFault word) =
-    IsQuiet old new × RunFault u (IsSubject u) before.contents M F IN STREAM (λ name. ReadFailed name before after) word
-RunEndings u view M F IN STREAM bound before after old new status.WriteFault =
-    IsUntouched before after × HasView u view before.contents M F IN STREAM bound (λ text. IsCut text old new)
-RunEndings u view M F IN STREAM bound before after old new (status.TooLong word) =
-    IsQuiet old new × RunFault u (IsSubject u) before.contents M F IN STREAM (λ name. IsTooLong name before after) word
-RunEndings u view M F IN STREAM bound before after old new status.NoMemory = IsUntouched before after × IsQuiet old new
-RunEndings u view M F IN STREAM bound before after old new s = ⊥
+RunEndings u view M F IN STREAM bound before after old new s =
+    PairRunEndings u (IsSubject u) (RefusesSubject u)
+    (λ file subject memory words. TextRows (IsShown u view bound file subject memory words) (Lacks u file subject))
+    M F IN STREAM before after old new s
 
 -- its clause says this of each status
 abbrev pub RunByStatus : Type 0

@@ -1,10 +1,9 @@
 -- What `stages` does, and why it does not.
 use Rattle.std.specs.Prelude.{◌≡◌, ◌↔◌, ℕ, List}
-use Rattle.tta_inspect.specs.Cited.{World, IsUntouched, Output, IsQuiet, IsPut, IsCut, Units, Machine, HasCause, Stages, AreStages, stages_text, stages_page, MachineFile, Status, HasText, ReadFailed, IsTooLong, IsBadMachine, IsProgramFor, RefusesProgramFor, IsBadProgram, IsOutside, Puts, OfPair, PairFault}
+use Rattle.tta_inspect.specs.Cited.{World, Output, Units, Machine, HasCause, Stages, AreStages, stages_text, stages_page, MachineFile, Status, IsProgramFor, RefusesProgramFor, Puts, PutEndings}
 use Rattle.tta_program.specs.Program.{Program}
 use Rattle.tta_build.specs.declared.error.BuildError.TheVariants as cause
 use Rattle.tta_load.specs.declared.status.Status.TheVariants as status
-use Rattle.tta_load.specs.Endings.{OfMachine}
 use Rattle.tta_inspect.specs.declared.view.StagesView.{StagesView}
 use Rattle.tta_inspect.specs.declared.view.StagesView.TheVariants.{Lines, Page}
 
@@ -35,41 +34,10 @@ ShowsStages u view M P before after old new s =
 
 -- ---- how it ends by its status
 
--- files hold the pair, and something is true of what is told of its stages
-abbrev pub HasStages : Units → StagesView → (before : World) → (M P : List ℕ) → (Is : List ℕ → Type 0) → Type 0
-HasStages u view before M P Is = OfPair u (IsProgramFor u) before.contents M P (λ file p. (text : List ℕ) × IsStagesOf u view file p text × Is text)
-
 -- what holds where such a command ends with a status
 abbrev pub StagesEndings : Units → StagesView → (M P : List ℕ) → (before after : World) → (old new : Output) → Status → Type 0
-StagesEndings u view M P before after old new status.Ok = IsUntouched before after × HasStages u view before M P (λ text. IsPut text old new)
-StagesEndings u view M P before after old new (status.BadMachine line code) =
-    IsUntouched before after × IsQuiet old new × HasText before.contents M (λ text. IsBadMachine u text line code)
-StagesEndings u view M P before after old new (status.BadProgram line code) =
-    IsUntouched before after × IsQuiet old new
-    × OfMachine u before.contents M (λ file. HasText before.contents P (λ text. IsBadProgram u text line code))
-StagesEndings u view M P before after old new (status.DataRange line have) =
-    IsUntouched before after × IsQuiet old new
-    × OfMachine u before.contents M (λ file. HasText before.contents P (λ text. IsOutside u file.machine.data_words text line have))
-StagesEndings u view M P before after old new (status.NotCovered rule) =
-    IsUntouched before after × IsQuiet old new
-    × OfPair u (IsProgramFor u) before.contents M P (λ file p. HasCause u file.machine p (cause.NotCovered rule))
-StagesEndings u view M P before after old new (status.NoUnit line) =
-    IsUntouched before after × IsQuiet old new
-    × OfPair u (IsProgramFor u) before.contents M P (λ file p. HasCause u file.machine p (cause.NoUnit line))
-StagesEndings u view M P before after old new (status.FrameFull need have) =
-    IsUntouched before after × IsQuiet old new
-    × OfPair u (IsProgramFor u) before.contents M P (λ file p. HasCause u file.machine p (cause.FrameFull need have))
-StagesEndings u view M P before after old new (status.CodeFull words have) =
-    IsUntouched before after × IsQuiet old new
-    × OfPair u (IsProgramFor u) before.contents M P (λ file p. HasCause u file.machine p (cause.CodeFull words have))
-StagesEndings u view M P before after old new (status.ReadFault word) =
-    IsQuiet old new × PairFault u before.contents M P (λ name. ReadFailed name before after) word
-StagesEndings u view M P before after old new status.WriteFault =
-    IsUntouched before after × HasStages u view before M P (λ text. IsCut text old new)
-StagesEndings u view M P before after old new (status.TooLong word) =
-    IsQuiet old new × PairFault u before.contents M P (λ name. IsTooLong name before after) word
-StagesEndings u view M P before after old new status.NoMemory = IsUntouched before after × IsQuiet old new
-StagesEndings u view M P before after old new s = ⊥
+StagesEndings u view M P before after old new s =
+    PutEndings u (IsProgramFor u) (RefusesProgramFor u) (IsStagesOf u view) (λ file p. IsCauseOf u file.machine p) M P before after old new s
 
 -- its clause says this of each status
 abbrev pub StagesByStatus : Type 0

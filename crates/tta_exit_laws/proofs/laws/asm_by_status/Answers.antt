@@ -1,34 +1,9 @@
-use Rattle.std.proofs.Common.{◌↔◌, ℕ, List, inl, inr}
-use Rattle.tta_exit_laws.specs.Cited.{World, Units, Status, ReadFailed, no_memory, IsAssemblyFor, RefusesAssembly, IsAssembled, Assembles}
-use Rattle.tta_load.specs.declared.status.Status.TheVariants as status
-use Rattle.tta_load.specs.Held.{IsTooLong}
-use Rattle.tta_load.proofs.Stages.{none, pair_at, WriteStages, write_stages}
-use Rattle.tta_exit_laws.specs.Asm.{AsmEndings}
+use Rattle.tta_exit_laws.specs.Cited.{no_memory, IsAssemblyFor, RefusesAssembly, IsAssembled}
+use Rattle.tta_load.proofs.Statuses.{assembly_refusal, memory_lack}
+use Rattle.tta_load.proofs.ByStatus.{write_by_status}
 use Rattle.tta_exit_laws.proofs.laws.asm_by_status.Goals as goal
 
-module _ (u : Units) (M A OUT : List ℕ) (before after : World) where
-  of : (s : Status) (G : Type 0) → WriteStages u (IsAssemblyFor u) (RefusesAssembly u) IsAssembled (λ file whole. no_memory) M A OUT before after s G
-  of s G = write_stages u (IsAssemblyFor u) (RefusesAssembly u) IsAssembled (λ file whole. no_memory) M A OUT before after s G
-
-  by_status : (s : Status) → Assembles u M A OUT before after s ↔ AsmEndings u M A OUT before after s
-  by_status status.Ok = (of status.Ok _ absurd none (λ m. absurd) (λ m. none) (λ p e. let lacks = e.1 in absurd cc) (λ p e. (p, e)), λ e. inr (e.0, inr e.1))
-  by_status (status.BadMachine line code) =
-      (of (status.BadMachine line code) _ absurd (λ e. e) (λ m. absurd) (λ m. none) (λ p e. let lacks = e.1 in absurd cc) (λ p. absurd), λ e. inl (inl (inr e)))
-  by_status (status.BadAsm line code) = (
-    of (status.BadAsm line code) _ absurd none (λ m. absurd) (λ m e. (e.0, (m, e.1))) (λ p e. let lacks = e.1 in absurd cc) (λ p. absurd),
-    λ e. inl (inr (e.1.0, inr (e.0, e.1.1))),
-  )
-  by_status (status.ReadFault word) = (
-    of (status.ReadFault word) _ inl none (λ m e. inr (e.0, m, e.1)) (λ m. none) (λ p e. let lacks = e.1 in absurd cc) (λ p. absurd),
-    λ e. inl (pair_at u (RefusesAssembly u) M A before after (status.ReadFault word) (λ n. ReadFailed n before after) word (λ k n a. a) e),
-  )
-  by_status (status.TooLong word) = (
-    of (status.TooLong word) _ inl none (λ m e. inr (e.0, m, e.1)) (λ m. none) (λ p e. let lacks = e.1 in absurd cc) (λ p. absurd),
-    λ e. inl (pair_at u (RefusesAssembly u) M A before after (status.TooLong word) (λ n. IsTooLong n before after) word (λ k n a. a) e),
-  )
-  by_status status.WriteFault = (of status.WriteFault _ absurd none (λ m. absurd) (λ m. none) (λ p e. let lacks = e.1 in absurd cc) (λ p e. (p, e)), λ e. inr (e.0, inr e.1))
-  by_status status.NoMemory = (of status.NoMemory _ (λ e. e) (λ e. e.0) (λ m e. e) (λ m e. e.0) (λ p e. e.0) (λ p e. e), λ e. inl (inl (inl e)))
-  by_status s = (of s _ absurd none (λ m. absurd) (λ m. none) (λ p e. let lacks = e.1 in absurd cc) (λ p. absurd), λ e. absurd e)
-
 pub returns : goal.returns
-returns c = by_status
+returns c = λ u M A OUT before after.
+    write_by_status u (IsAssemblyFor u) (RefusesAssembly u) IsAssembled (λ file whole. no_memory) M A OUT before after
+    (assembly_refusal u) (λ file whole. memory_lack)

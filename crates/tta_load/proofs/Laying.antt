@@ -1,1 +1,0 @@
--- Data that are laid over a memory keep its length.
