@@ -2,6 +2,7 @@
 
 ghost use Rattle.std.specs.Prelude.{◌≡◌, ◌<◌, ◌^◌, map, option_map, IfSome};
 ghost use Rattle.std.specs.String.{string_bytes};
+ghost use Rattle.tta_load.specs.Runs.{bound_of};
 ghost use Rattle.tta_inspect.specs.Spans.{first_of};
 ghost use Rattle.tta_inspect.specs.Request as r;
 
@@ -9,6 +10,31 @@ use crate::names::RunRequest;
 use crate::request::Request;
 use crate::view::RunView;
 use tta_load::bound_of;
+
+/// A view of a run by the names of its files, that of its input where it has one, and the word of its bound.
+fn of_names<'w>(
+    view: RunView,
+    machine: &'w str,
+    subject: &'w str,
+    input: &'w str,
+    stream: Option<&'w str>,
+    last: &str,
+) -> Option<Request<'w>>
+    requires { first_of view < 2 ^ 48 }
+    ensures { option_map r.asked result
+        ≡ option_map (r.OfRun view machine.now subject.now input.now
+        (option_map (λ s. s.now) stream.entry)) (bound_of last.now) }
+{
+    let bound = bound_of(last.as_bytes())?;
+    Some(Request::Run(RunRequest {
+        view,
+        machine,
+        subject,
+        input,
+        stream,
+        bound,
+    }))
+}
 
 /// A view of a run of an image or a program from data words within a bound, after which the file of an
 /// input may be named.
@@ -18,27 +44,9 @@ pub fn of_run<'w>(view: RunView, words: &'w [String]) -> Option<Request<'w>>
         ≡ r.run_request view (map (λ w. string_bytes w) words.now) }
 {
     match words {
-        [machine, subject, input, last] => {
-            let bound = bound_of(last.as_bytes())?;
-            Some(Request::Run(RunRequest {
-                view,
-                machine,
-                subject,
-                input,
-                stream: None,
-                bound,
-            }))
-        }
+        [machine, subject, input, last] => of_names(view, machine, subject, input, None, last),
         [machine, subject, input, last, stream] => {
-            let bound = bound_of(last.as_bytes())?;
-            Some(Request::Run(RunRequest {
-                view,
-                machine,
-                subject,
-                input,
-                stream: Some(stream.as_str()),
-                bound,
-            }))
+            of_names(view, machine, subject, input, Some(stream.as_str()), last)
         }
         _ => None,
     }
@@ -64,27 +72,11 @@ pub fn of_play<'w>(words: &'w [String]) -> Option<Request<'w>>
     match words {
         [machine, subject, input, last, mark, first] => {
             let view = view_from(mark, first)?;
-            let bound = bound_of(last.as_bytes())?;
-            Some(Request::Run(RunRequest {
-                view,
-                machine,
-                subject,
-                input,
-                stream: None,
-                bound,
-            }))
+            of_names(view, machine, subject, input, None, last)
         }
         [machine, subject, input, last, stream, mark, first] => {
             let view = view_from(mark, first)?;
-            let bound = bound_of(last.as_bytes())?;
-            Some(Request::Run(RunRequest {
-                view,
-                machine,
-                subject,
-                input,
-                stream: Some(stream.as_str()),
-                bound,
-            }))
+            of_names(view, machine, subject, input, Some(stream.as_str()), last)
         }
         rest => of_run(RunView::Play, rest),
     }
