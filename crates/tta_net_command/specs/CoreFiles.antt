@@ -3,6 +3,7 @@
 use Rattle.std.specs.Prelude.{◌≡◌, ◌⊎◌, ℕ, ◌+◌, ◌*◌, ◌<◌, ◌/◌, List, [], length, Option, Some, slice_get, slice_index_or, Result, Ok, Err}
 use Rattle.tta_net_command.specs.Cited.{Store, World, IsUntouched, Units, over, Whole, data_in, Core, Feeds, links_of, MachineFile, Status, IsHeld, IsTaken, FileFails, IsDescribed, RefusesMachine, HasMachine, IsImageFor, RefusesImage, Fills, RefusesInput, HasPair, ReadsPair}
 use Rattle.tta_load.specs.declared.status.Status.TheVariants as status
+use Rattle.tta_net_command.specs.Request.{files_each}
 
 -- ---- links
 
@@ -20,15 +21,15 @@ RefusesLinks count bytes s = ⊥
 
 -- how many cores have so many files
 abbrev pub cores_in : (files : ℕ) → ℕ
-cores_in files = files / 3
+cores_in files = files / files_each
 
 -- the name of a core's file: its machine is the first (0), its image the second (1), and the words of its data space are the third (2)
 abbrev pub name_of : (names : List (List ℕ)) → (core part : ℕ) → List ℕ
-name_of names core part = slice_index_or names (3 * core + part) []
+name_of names core part = slice_index_or names (files_each * core + part) []
 
 -- the word of the command line that has it
 abbrev pub word_of : (core part : ℕ) → ℕ
-word_of core part = 3 * core + part + 3
+word_of core part = files_each * core + part + 3
 
 -- ---- one core
 

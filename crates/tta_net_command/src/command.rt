@@ -14,7 +14,7 @@ ghost use Rattle.tta_net_command.specs.Net.{HasMadeRounds, NetReports, CoresRepo
 use crate::cores::{Cores, core_files};
 use crate::files::links_file;
 use crate::report::{first_fault, put_net, rounds_status};
-use crate::request::NetRequest;
+use crate::request::{FILES, NetRequest};
 use std::alloc::Global;
 use tta_load::Status;
 use tta_net::{Cluster, Core, StepResult};
@@ -90,7 +90,7 @@ fn net_of_links<F: Files, S: Sink>(
         CoresReport U feeds.now request.now.rounds names
         (F.world files.old) (F.world files.new) (S.output sink.old) (S.output sink.new) result }
 {
-    let count = (request.names.len() / 3) as u8;
+    let count = (request.names.len() / FILES) as u8;
     match core_files(alloc, units, files, request.names, count) {
         Ok(taken) => run_cores(alloc, units, sink, feeds, taken, request.rounds),
         Err(status) => status,
@@ -111,7 +111,7 @@ pub fn run_net<F: Files, S: Sink>(
         Nets (stated unit_meaning units.now) request.now.rounds request.now.links.now names
         (F.world files.old) (F.world files.new) (S.output sink.old) (S.output sink.new) result }
 {
-    let count = (request.names.len() / 3) as u8;
+    let count = (request.names.len() / FILES) as u8;
     match links_file(alloc, files, request.links, count) {
         Ok(feeds) => net_of_links(alloc, units, files, sink, request, feeds.as_slice()),
         Err(status) => status,

@@ -14,6 +14,7 @@ ghost use Rattle.tta_load.specs.Inputs.{Fills, RefusesInput};
 ghost use Rattle.tta_net_command.specs.CoreFiles.{AreLinks, RefusesLinks, name_of, word_of, as_core};
 ghost use Rattle.tta_net_command.specs.CoreFiles.{CoreFileEnds, CorePairEnds, CoreEnds};
 
+use crate::request::FILES;
 use std::alloc::Global;
 use tta_code::{Whole, lay};
 use tta_load::{
@@ -83,7 +84,7 @@ fn name_at(names: &[String], core: u8, part: u8) -> &str
     requires { 3 * core + part < length names.now }
     ensures { result.now ≡ name_of (map (λ w. string_bytes w) names.now) core part }
 {
-    names[3 * usize::from(core) + usize::from(part)].as_str()
+    names[FILES * usize::from(core) + usize::from(part)].as_str()
 }
 
 /// The word of the command line that has it.
@@ -92,7 +93,7 @@ fn word_at(core: u8, part: u8) -> u8
     requires part { part < 3 }
     ensures { result ≡ word_of core part }
 {
-    3 * core + part + 3
+    FILES as u8 * core + part + 3
 }
 
 /// The machine of a core's file that a word names.

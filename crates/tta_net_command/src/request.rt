@@ -9,6 +9,12 @@ use tta_load::digits_of;
 /// A net makes fewer rounds than this.
 const ROUNDS: u64 = (1 << 20) + 1;
 
+/// How many cores a net has at most.
+const MOST_CORES: usize = 8;
+
+/// How many files each core has: those of its machine, its image and its data words.
+pub const FILES: usize = 3;
+
 /// A net that is asked for: how many rounds it makes at most, the file of its links, and three files
 /// for each core.
 #[derive(Clone, Copy)]
@@ -35,5 +41,5 @@ pub fn rounds_of(word: &[u8]) -> Option<u32>
 pub fn is_net(names: usize) -> bool
     ensures { result ≡ spec.is_net names }
 {
-    0 < names && names < 25 && names % 3 == 0
+    0 < names && names <= MOST_CORES * FILES && names % FILES == 0
 }
