@@ -111,6 +111,20 @@ stopped waits s = if waits then reply.Waiting s.pc s.cycle else standing s
 abbrev pub ran : Went → Done
 ran w = record { says = w.says ++ say (stopped w.waits w.last.state) w.last; after = w.last; bye = false }
 
+-- ---- refusals
+
+-- the words are no command
+abbrev pub no_command : ℕ
+no_command = 70
+
+-- a name, an index or an address is none that the command can take
+abbrev pub not_there : ℕ
+not_there = 71
+
+-- there are as many breakpoints as a session can have
+abbrev pub stops_full : ℕ
+stops_full = 72
+
 -- ---- breakpoints
 
 -- whether an address is one of these
@@ -124,14 +138,14 @@ is_at_stop d = has d.stops d.state.pc
 -- one more breakpoint, at one of so many instructions: at most 8 of them, and one that is set stays
 abbrev pub with_stop : (count : ℕ) → List ℕ → ℕ → Result (List ℕ) ℕ
 with_stop count stops a =
-    if not (nat_lt a count) then Err 71
+    if not (nat_lt a count) then Err not_there
     else if has stops a then Ok stops
-    else if nat_le 8 (length stops) then Err 72
+    else if nat_le 8 (length stops) then Err stops_full
     else Ok (stops ++ a ∷ [])
 
 -- a breakpoint that is set is taken away
 abbrev pub without_stop : List ℕ → ℕ → Result (List ℕ) ℕ
-without_stop stops a = if has stops a then Ok (filter (λ b. not (b == a)) stops) else Err 71
+without_stop stops a = if has stops a then Ok (filter (λ b. not (b == a)) stops) else Err not_there
 
 -- the breakpoints are these now
 abbrev pub stops_set : Debugged → Result (List ℕ) ℕ → Result Done ℕ
@@ -191,7 +205,7 @@ unit_lines d k (u ∷ us) = due_lines d u.name k 1 16 ++ unit_lines d (k + 1) us
 
 -- what comes of a question
 abbrev pub told : Debugged → Option Reply → Result Done ℕ
-told d None = Err 71
+told d None = Err not_there
 told d (Some r) = Ok (replies r d)
 
 -- all results in flight
@@ -211,7 +225,7 @@ answer u m code d Quit = Ok (record { says = say reply.Bye d; after = d; bye = t
 
 -- what comes of words
 abbrev pub answer_asked : Units → Machine → Code → Debugged → Option Command → Result Done ℕ
-answer_asked u m code d None = Err 70
+answer_asked u m code d None = Err no_command
 answer_asked u m code d (Some c) = answer u m code d c
 
 -- what comes of a line

@@ -5,7 +5,7 @@ pub use Rattle.tta_arch.specs.declared.parts.File.{File}
 pub use Rattle.tta_disasm.specs.Canonical.{place_text}
 unfoldable pub use Rattle.tta_disasm.specs.Canonical.{instruction_text}
 pub use Rattle.tta_code.specs.Cycle.{State}
-pub use Rattle.tta_debug.specs.Debugged.{Debugged, Done, command, goes_on, saying_first, session, texts}
+pub use Rattle.tta_debug.specs.Debugged.{Debugged, Done, command, goes_on, not_there, saying_first, session, texts}
 pub use Rattle.tta_debug.specs.Scripts.{line_goes, line_leaves, line_says, line_text}
 pub use Rattle.tta_debug.specs.Sessions.{Follows, IsStopped, PutsLine, Session'}
 unfoldable pub use Rattle.tta_debug.specs.Words.{words_of}

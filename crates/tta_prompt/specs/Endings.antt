@@ -1,7 +1,7 @@
 -- How a session at a prompt ends.
 use Rattle.std.specs.Prelude.{◌≡◌, ◌⊎◌, ℕ, ◌+◌, ◌-◌, ◌^◌, Bool, true, false, Option, Some, None, List, [], ◌∷◌, ◌++◌, length, Result, Ok, Err}
 use Rattle.std.specs.List.{sum_by}
-use Rattle.tta_prompt.specs.Cited.{Output, IsPut, IsCut, IsQuiet, Failed, reply_text, Come, with_lines, with_end, with_overlong, IsFailed, Units, Machine, Debugged, Done, Session', Follows, IsStopped, PutsLine, line_text, line_says, line_goes, line_leaves}
+use Rattle.tta_prompt.specs.Cited.{Output, IsPut, IsCut, IsQuiet, Failed, reply_text, Come, with_lines, with_end, with_overlong, IsFailed, Units, Machine, not_there, Debugged, Done, Session', Follows, IsStopped, PutsLine, line_text, line_says, line_goes, line_leaves}
 use Rattle.tta_report.specs.declared.reply.Reply.TheVariants as reply
 use Rattle.tta_code.specs.declared.code.Code.{Code}
 use Rattle.tta_prompt.specs.declared.error.PromptError.{PromptError}
@@ -21,7 +21,7 @@ AnswersLine input d done h old new (Err TooLong) = ⊥
 
 -- a text was put, or the refusal where there is none, or a prefix of it
 abbrev pub PutsText : Option (List ℕ) → (old new : Output) → Result (Unit {0}) Failed → Type 0
-PutsText None old new result = PutsLine (reply_text (reply.Refused 71)) old new result
+PutsText None old new result = PutsLine (reply_text (reply.Refused not_there)) old new result
 PutsText (Some text) old new result = PutsLine text old new result
 
 -- ---- lines

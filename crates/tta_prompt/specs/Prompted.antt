@@ -1,6 +1,6 @@
 -- A debugger's session at a prompt: what comes of each line, and of lines one after another.
 use Rattle.std.specs.Prelude.{ℕ, Bool, true, false, if◌then◌else◌, List, [], ◌∷◌, Option, Some, None, Result, Ok, Err}
-use Rattle.tta_prompt.specs.Cited.{Units, Machine, words_of, Debugged, Done, command, goes_on, line_goes, line_leaves}
+use Rattle.tta_prompt.specs.Cited.{Units, Machine, words_of, Debugged, Done, command, goes_on, not_there, line_goes, line_leaves}
 use Rattle.tta_code.specs.declared.code.Code.{Code}
 use Rattle.tta_prompt.specs.declared.own.Own.{Own}
 use Rattle.tta_prompt.specs.Own.{own_by}
@@ -8,7 +8,7 @@ use Rattle.tta_prompt.specs.Texts.{own_text}
 
 -- what is shown changes nothing; where nothing is there, that is refused
 abbrev pub shown : Debugged → Option (List ℕ) → Result Done ℕ
-shown d None = Err 71
+shown d None = Err not_there
 shown d (Some text) = Ok (record { says = record { text = text; at = d } ∷ []; after = d; bye = false })
 
 -- what comes of a line: what it shows, where it asks that of a prompt alone, and else what comes of it in a script

@@ -5,7 +5,7 @@ ghost use Rattle.tta_ops.specs.Set.{stated};
 ghost use Rattle.tta_report.specs.Replies.{reply_text};
 ghost use Rattle.tta_report.specs.declared.reply.Reply.TheVariants as reply;
 ghost use Rattle.tta_sim.specs.Held.{IsRunOf};
-ghost use Rattle.tta_debug.specs.Debugged.{Debugged, command};
+ghost use Rattle.tta_debug.specs.Debugged.{Debugged, command, not_there};
 ghost use Rattle.tta_debug.specs.Sessions.{Follows, PutsLine};
 ghost use Rattle.tta_prompt.specs.Texts.{own_text};
 ghost use Rattle.tta_prompt.specs.Prompted.{shown, prompt_line};
@@ -28,7 +28,7 @@ fn put_text<S: Sink>(sink: &mut S, text: &[u8]) -> Result<(), Failed>
 
 /// Puts the refusal of a place where there is nothing.
 fn put_refusal<S: Sink>(sink: &mut S) -> Result<(), Failed>
-    ensures { PutsLine (reply_text (reply.Refused 71)) (S.output sink.old)
+    ensures { PutsLine (reply_text (reply.Refused not_there)) (S.output sink.old)
         (S.output sink.new) result }
 {
     put_reply(sink, &Reply::Refused(NOT_THERE))
