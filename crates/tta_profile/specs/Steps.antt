@@ -1,8 +1,6 @@
 -- What a cycle adds to the counts.
-use Rattle.std.specs.Prelude.{◌≡◌, ℕ, ◌+◌, ◌*◌, ◌<◌, ◌^◌, Bool, true, false, if◌then◌else◌, List, slice_index}
+use Rattle.std.specs.Prelude.{◌≡◌, ℕ, ◌+◌, ◌*◌, ◌<◌, ◌^◌, Bool, true, false, if◌then◌else◌, List, Option, Some, None, slice_index}
 use Rattle.tta_profile.specs.Cited.{left, Machine, Written, Instruction, State}
-use Rattle.tta_profile.specs.declared.counting.Went.{Went}
-use Rattle.tta_profile.specs.declared.counting.Went.TheVariants.{On, Over}
 use Rattle.tta_profile.specs.Counts.{Counts, is_made, carries, stops}
 use Rattle.tta_profile.specs.declared.outside.Space.TheVariants.{Data, Frame}
 use Rattle.tta_profile.specs.Outside.{strays}
@@ -41,13 +39,13 @@ pub record IsOver (step : State → State) (s : State) : Type 0 where
   pub made : is_made step s ≡ false
   pub stays : step (step s) ≡ step s
 
--- what became of a cycle
-abbrev pub Goes : (step : State → State) → List Instruction → (Stands : State → Type 0) → State → (old new : Counts) → Went → Type 0
-Goes step words Stands s old new (On took) = IsOn step Stands s took × Adds step words s old new
-Goes step words Stands s old new Over = IsOver step s × (new ≡ old)
+-- what became of a cycle: it was carried out, and took a word of the input or did not, or it was not
+abbrev pub Goes : (step : State → State) → List Instruction → (Stands : State → Type 0) → State → (old new : Counts) → Option Bool → Type 0
+Goes step words Stands s old new (Some took) = IsOn step Stands s took × Adds step words s old new
+Goes step words Stands s old new None = IsOver step s × (new ≡ old)
 
 -- what it wrote and accessed outside, where this is kept of what was written
-abbrev pub GoesOutside : (step : State → State) → Machine → List Instruction → (Keeps : Written → Type 0) → State → (old new : Counts) → Went
+abbrev pub GoesOutside : (step : State → State) → Machine → List Instruction → (Keeps : Written → Type 0) → State → (old new : Counts) → Option Bool
     → Type 0
-GoesOutside step m words Keeps s old new (On took) = Keeps (step s).written × AddsOutside step m words s old new
-GoesOutside step m words Keeps s old new Over = new ≡ old
+GoesOutside step m words Keeps s old new (Some took) = Keeps (step s).written × AddsOutside step m words s old new
+GoesOutside step m words Keeps s old new None = new ≡ old

@@ -54,23 +54,15 @@ fn stopped_next(sim: &Sim, basis: &Basis<'_>) -> u16
     }
 }
 
-/// What became of a cycle.
-#[derive(Clone, Copy)]
-pub enum Went {
-    /// It was carried out, and took a word of the input or did not.
-    On(bool),
-    /// It was not, and none will be: the run has halted, faults or waits.
-    Over,
-}
-
-/// Carries out a cycle and counts it.
+/// Carries out a cycle and counts it. It answers whether the cycle took a word of the input, or `None`
+/// where none was carried out, and none will be: the run has halted, faults or waits.
 fn count_cycle(
     followed: &mut Followed,
     sim: &mut Sim,
     counts: &mut Counts,
     basis: &Basis<'_>,
     next: Option<u32>,
-) -> Went
+) -> Option<bool>
     requires loaded { IsRunOf basis.now.m.now basis.now.code.now sim.old }
     requires few { sim.old.cycle < 2 ^ 62 }
     requires size { length counts.old.executed ≡ length basis.now.code.now.words }
@@ -104,11 +96,11 @@ fn count_cycle(
             write_made(&mut followed.row, m, pc, came, followed.carried.as_slice());
             counts.add(pc as usize, stopped);
             count_outside(counts, &*followed, m, pc as usize, slots_of(came));
-            Went::On(took)
+            Some(took)
         }
-        CycleStep::Halted => Went::Over,
-        CycleStep::Fault(_) => Went::Over,
-        CycleStep::Waiting => Went::Over,
+        CycleStep::Halted => None,
+        CycleStep::Fault(_) => None,
+        CycleStep::Waiting => None,
     }
 }
 
@@ -146,8 +138,8 @@ pub fn count_cycles(
     'cycles: while left > 0 {
         note_carried(followed, basis, &*sim)?;
         match count_cycle(followed, sim, counts, basis, first_of(rest)) {
-            Went::Over => return Ok(()),
-            Went::On(took) => rest = left_of(rest, took),
+            None => return Ok(()),
+            Some(took) => rest = left_of(rest, took),
         }
         left -= 1;
     }

@@ -14,7 +14,7 @@ mod stopped;
 mod sums;
 mod uses;
 
-pub use counting::{Basis, Went};
+pub use counting::Basis;
 pub use counts::Counts;
 pub use feed::went_on;
 pub use hot::Hot;

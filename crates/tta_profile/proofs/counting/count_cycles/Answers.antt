@@ -74,7 +74,7 @@ cycles-preserved g c =
     let within = c.cycles.invariant.within in
     let test = c.cycles-test.true in
     let goes = λ (s : State) (stands : Stands c.args.sim.now s) (given : s.rest ≡ c.args.input.now).
-    c.in-On.ensures.goes (iterate (made g at) (step g at) s) (c.cycles.invariant.stands s stands given) (fed g at s stands given)
+    c.in-Some.ensures.goes (iterate (made g at) (step g at) s) (c.cycles.invariant.stands s stands given) (fed g at s stands given)
     (are_small (step g at) (words g at) s (made g at) c.cycles.counts (few_made g at) (c.cycles.invariant.counts s stands given)) in
     record {
       loaded = c.count_cycle.ensures.loaded;
@@ -87,7 +87,7 @@ cycles-preserved g c =
           (subst (λ (n : ℕ). Stands c.count_cycle.new.sim (iterate n (step g at) s)) (let e : suc (made g at) ≡ made g at + 1 = omega arith in e) (goes s stands given).0.stands);
       rest = λ s stands given. subst (λ (n : ℕ). (iterate n (step g at) s).rest ≡ c.left_of-rest.result.now) (one_more g at)
           (subst (λ (n : ℕ). (iterate n (step g at) s).rest ≡ c.left_of-rest.result.now) (let e : suc (made g at) ≡ made g at + 1 = omega arith in e)
-          ((goes s stands given).0.rest ∙ ap (unread c.in-On.took) (c.cycles.invariant.rest s stands given) ∙ sym c.left_of-rest.ensures));
+          ((goes s stands given).0.rest ∙ ap (unread c.in-Some.took) (c.cycles.invariant.rest s stands given) ∙ sym c.left_of-rest.ensures));
       counts = λ s stands given. subst (λ (n : ℕ). AreCounts (step g at) (words g at) s n c.count_cycle.new.counts) (one_more g at)
           (counts_on (step g at) (words g at) s (made g at) c.cycles.counts c.count_cycle.new.counts (c.cycles.invariant.counts s stands given) (goes s stands given).1
           c.count_cycle.ensures.size c.count_cycle.ensures.room);
@@ -98,7 +98,7 @@ cycles-preserved g c =
           let t = iterate (made g at) (step g at) s in
           let was = c.cycles.invariant.outside s stands given had in
           let now = c.cycles.invariant.stands s stands given in
-          let went = c.in-On.ensures.outside t now (fed g at s stands given) (kept g at t was.0) (c.in_ok-note_carried.ensures.carried t now was.0)
+          let went = c.in-Some.ensures.outside t now (fed g at s stands given) (kept g at t was.0) (c.in_ok-note_carried.ensures.carried t now was.0)
           (are_small_outside (step g at) m (words g at) s (made g at) c.cycles.counts (few_made g at) was.1) in (
             subst (λ (n : ℕ). HasWritten c.count_cycle.new.followed.row (iterate n (step g at) s).written) (one_more g at)
                 (subst (λ (n : ℕ). HasWritten c.count_cycle.new.followed.row (iterate n (step g at) s).written) (let e : suc (made g at) ≡ made g at + 1 = omega arith in e) went.0),
@@ -108,22 +108,22 @@ cycles-preserved g c =
           );
     }
 
-pub returns-in-Over : goal.returns-in-Over
-returns-in-Over g c = record {
+pub returns-in-None : goal.returns-in-None
+returns-in-None g c = record {
   size = c.count_cycle.ensures.size ∙ c.cycles.invariant.size;
   counts = λ s stands given.
-      let at = (goal.at.returns-in-Over g c).After-count_cycle in
+      let at = (goal.at.returns-in-None g c).After-count_cycle in
       let are = c.cycles.invariant.counts s stands given in
-      let goes = c.in-Over.ensures.goes (iterate (made g at) (step g at) s) (c.cycles.invariant.stands s stands given) (fed g at s stands given)
+      let goes = c.in-None.ensures.goes (iterate (made g at) (step g at) s) (c.cycles.invariant.stands s stands given) (fed g at s stands given)
       (are_small (step g at) (words g at) s (made g at) c.cycles.counts (few_made g at) are) in
       subst (λ (x : Counts). AreCounts (step g at) (words g at) s c.args.bound x) (sym goes.1)
       (subst (λ (n : ℕ). AreCounts (step g at) (words g at) s n c.cycles.counts) (all_made g at)
       (counts_over (step g at) (words g at) s (made g at) c.cycles.left c.cycles.counts are goes.0));
   outside = λ s stands given had.
-      let at = (goal.at.returns-in-Over g c).After-count_cycle in
+      let at = (goal.at.returns-in-None g c).After-count_cycle in
       let m = c.args.basis.now.m.now in
       let was = c.cycles.invariant.outside s stands given had in
-      let goes = c.in-Over.ensures.goes (iterate (made g at) (step g at) s) (c.cycles.invariant.stands s stands given) (fed g at s stands given)
+      let goes = c.in-None.ensures.goes (iterate (made g at) (step g at) s) (c.cycles.invariant.stands s stands given) (fed g at s stands given)
       (are_small (step g at) (words g at) s (made g at) c.cycles.counts (few_made g at) (c.cycles.invariant.counts s stands given)) in
       subst (λ (x : Counts). AreOutside (step g at) m (words g at) s c.args.bound x) (sym goes.1)
       (subst (λ (n : ℕ). AreOutside (step g at) m (words g at) s n c.cycles.counts) (all_made g at)
