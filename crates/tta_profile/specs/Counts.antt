@@ -4,6 +4,10 @@ use Rattle.std.specs.Option.{option_map_or}
 use Rattle.std.specs.List.{count_by, range_with_len}
 use Rattle.tta_profile.specs.Cited.{iterate, is_active, Move, Instruction, State, read_source, effect_of}
 
+-- how many buses an instruction can have
+abbrev pub most_buses : ℕ
+most_buses = 16
+
 -- the states before each of the first n cycles
 abbrev pub states : (step : State → State) → State → ℕ → List State
 states step s n = map (λ k. iterate k step s) (range_with_len 0 n)
@@ -36,7 +40,7 @@ executed step s n address = count_by (carries step address) (states step s n)
 abbrev pub passed : (step : State → State) → List Instruction → State → (n address bus : ℕ) → ℕ
 passed step words s n address bus = count_by (stops step words address bus) (states step s n)
 
--- What is counted: of each instruction how often it was carried out, and of each of 16 buses how often its move was passed over; and of
+-- What is counted: of each instruction how often it was carried out, and of each of these buses how often its move was passed over; and of
 -- each instruction how often it accessed the data space, and the frame, at an address outside.
 pub record Counts : Type 0 where
   pub executed : List ℕ
@@ -47,5 +51,5 @@ pub record Counts : Type 0 where
 -- the counts are those of the first n cycles from a state
 pub record AreCounts (step : State → State) (words : List Instruction) (s : State) (n : ℕ) (c : Counts) : Type 0 where
   pub executed : (address : ℕ) → slice_index c.executed address ≡ executed step s n address
-  pub passed : (address bus : ℕ) → bus < 16 → slice_index c.passed (16 * address + bus) ≡ passed step words s n address bus
-  pub sizes : (length c.executed ≡ length words) × (length c.passed ≡ 16 * length words)
+  pub passed : (address bus : ℕ) → bus < most_buses → slice_index c.passed (most_buses * address + bus) ≡ passed step words s n address bus
+  pub sizes : (length c.executed ≡ length words) × (length c.passed ≡ most_buses * length words)

@@ -9,13 +9,13 @@ use Rattle.tta_arch.specs.declared.ends.Dest.TheVariants as dest
 use Rattle.tta_profile.specs.declared.sums.Test.{Test}
 use Rattle.tta_profile.specs.declared.sums.Test.TheVariants as test
 use Rattle.tta_profile.specs.declared.hot.Hot.{Hot}
-use Rattle.tta_profile.specs.Counts.{Counts}
+use Rattle.tta_profile.specs.Counts.{Counts, most_buses}
 
 -- ---- sums
 
 -- how often the move of a bus in the instruction of an address was active
 abbrev pub active : Counts → (address bus : ℕ) → ℕ
-active c address bus = slice_index c.executed address - slice_index c.passed (16 * address + bus)
+active c address bus = slice_index c.executed address - slice_index c.passed (most_buses * address + bus)
 
 -- whether a destination starts an operation of a unit
 abbrev pub starts : (unit : ℕ) → Dest → Bool
@@ -91,7 +91,7 @@ count_text name n = codes " passed " ++ (name ++ (codes " " ++ decimal n))
 
 -- the same, if it has a guard
 abbrev pub passed_text : Machine → Counts → (address bus : ℕ) → Option Move → List ℕ
-passed_text m c address bus slot = if is_guarded slot then count_text (bus_name m bus) (slice_index c.passed (16 * address + bus)) else []
+passed_text m c address bus slot = if is_guarded slot then count_text (bus_name m bus) (slice_index c.passed (most_buses * address + bus)) else []
 
 -- the same of all moves of an instruction
 abbrev pub all_passed_text : Machine → Counts → (address : ℕ) → List (Option Move) → List ℕ

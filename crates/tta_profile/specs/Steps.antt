@@ -1,20 +1,20 @@
 -- What a cycle adds to the counts.
 use Rattle.std.specs.Prelude.{◌≡◌, ℕ, ◌+◌, ◌*◌, ◌<◌, ◌^◌, Bool, true, false, if◌then◌else◌, List, Option, Some, None, slice_index}
 use Rattle.tta_profile.specs.Cited.{left, Machine, Written, Instruction, State}
-use Rattle.tta_profile.specs.Counts.{Counts, is_made, carries, stops}
+use Rattle.tta_profile.specs.Counts.{Counts, most_buses, is_made, carries, stops}
 use Rattle.tta_profile.specs.declared.outside.Space.TheVariants.{Data, Frame}
 use Rattle.tta_profile.specs.Outside.{strays}
 
 -- no count is near its greatest
 pub record AreSmall (c : Counts) : Type 0 where
   pub executed : (address : ℕ) → slice_index c.executed address < 2 ^ 63
-  pub passed : (address bus : ℕ) → bus < 16 → slice_index c.passed (16 * address + bus) < 2 ^ 63
+  pub passed : (address bus : ℕ) → bus < most_buses → slice_index c.passed (most_buses * address + bus) < 2 ^ 63
 
 -- the counts are those before, and one more of what the cycle of a state carries out and stops
 pub record Adds (step : State → State) (words : List Instruction) (s : State) (old new : Counts) : Type 0 where
   pub executed : (address : ℕ) → slice_index new.executed address ≡ slice_index old.executed address + (if carries step address s then 1 else 0)
-  pub passed : (address bus : ℕ) → bus < 16
-      → slice_index new.passed (16 * address + bus) ≡ slice_index old.passed (16 * address + bus) + (if stops step words address bus s then 1 else 0)
+  pub passed : (address bus : ℕ) → bus < most_buses
+      → slice_index new.passed (most_buses * address + bus) ≡ slice_index old.passed (most_buses * address + bus) + (if stops step words address bus s then 1 else 0)
 
 -- no count of accesses outside the spaces is near its greatest
 pub record AreSmallOutside (c : Counts) : Type 0 where

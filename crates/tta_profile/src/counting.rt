@@ -10,7 +10,7 @@ ghost use Rattle.tta_code.specs.Cycle.{State, next as next_state};
 ghost use Rattle.tta_sim.specs.Held.{Stands, IsRunOf};
 ghost use Rattle.tta_sim.specs.Places.{HasWritten};
 ghost use Rattle.tta_places.specs.Carried.{carried, coming, slots_of};
-ghost use Rattle.tta_profile.specs.Counts.{AreCounts, is_stopped, slot_at};
+ghost use Rattle.tta_profile.specs.Counts.{AreCounts, is_stopped, most_buses, slot_at};
 ghost use Rattle.tta_profile.specs.Outside.{AreOutside};
 ghost use Rattle.tta_profile.specs.Steps.{AreSmall, AreSmallOutside, Goes, GoesOutside};
 
@@ -66,7 +66,7 @@ fn count_cycle(
     requires loaded { IsRunOf basis.now.m.now basis.now.code.now sim.old }
     requires few { sim.old.cycle < 2 ^ 62 }
     requires size { length counts.old.executed ≡ length basis.now.code.now.words }
-    requires room { length counts.old.passed ≡ 16 * length basis.now.code.now.words }
+    requires room { length counts.old.passed ≡ most_buses * length basis.now.code.now.words }
     requires room_data { length counts.old.outside_data ≡ length basis.now.code.now.words }
     requires room_frame { length counts.old.outside_frame ≡ length basis.now.code.now.words }
     ensures loaded { IsRunOf basis.now.m.now basis.now.code.now sim.new }
@@ -117,7 +117,7 @@ pub fn count_cycles(
     requires few { sim.old.cycle + bound < 2 ^ 62 }
     requires none { counts.old.executed ≡ replicate (length basis.now.code.now.words) 0 }
     requires none_passed { counts.old.passed
-        ≡ replicate (16 * length basis.now.code.now.words) 0 }
+        ≡ replicate (most_buses * length basis.now.code.now.words) 0 }
     requires none_data { counts.old.outside_data
         ≡ replicate (length basis.now.code.now.words) 0 }
     requires none_frame { counts.old.outside_frame

@@ -3,6 +3,7 @@
 ghost use Rattle.std.specs.Prelude.{◌≡◌, ◌+◌, ◌*◌, ◌<◌, ◌≤◌, ◌^◌, ◌==◌, ◌&&◌, ℕ, length, replicate};
 ghost use Rattle.std.specs.Prelude.{if◌then◌else◌, slice_index, IfOk};
 ghost use Rattle.tta_arch.specs.Joins.{has_bit};
+ghost use Rattle.tta_profile.specs.Counts.{most_buses};
 
 use std::alloc::{AllocError, Global};
 use std::marker::Model;
@@ -17,7 +18,7 @@ const BUSES: usize = 16;
 #[derive(Drop)]
 pub struct Counts {
     executed: Vec<u64>,
-    /// 16 for each instruction.
+    /// `BUSES` for each instruction.
     passed: Vec<u64>,
     outside_data: Vec<u64>,
     outside_frame: Vec<u64>,
@@ -70,10 +71,11 @@ fn add_if(counts: &mut Vec<u64>, place: usize, test: bool)
 
 /// Counts one more for each bus of a set, at the places of an instruction.
 fn add_buses(counts: &mut Vec<u64>, address: usize, stopped: u16)
-    requires within { 16 * address + 16 ≤ length counts.old.items }
-    ensures ones { ((bus : ℕ) → bus < 16 → slice_index counts.old.items (16 * address + bus) < 2 ^ 63)
-        → (a bus : ℕ) → bus < 16 → slice_index counts.new.items (16 * a + bus)
-        ≡ slice_index counts.old.items (16 * a + bus)
+    requires within { most_buses * address + most_buses ≤ length counts.old.items }
+    ensures ones { ((bus : ℕ) → bus < most_buses
+        → slice_index counts.old.items (most_buses * address + bus) < 2 ^ 63)
+        → (a bus : ℕ) → bus < most_buses → slice_index counts.new.items (most_buses * a + bus)
+        ≡ slice_index counts.old.items (most_buses * a + bus)
         + (if a == address && has_bit stopped bus then 1 else 0) }
     ensures size { length counts.new.items ≡ length counts.old.items }
 {
@@ -84,10 +86,11 @@ fn add_buses(counts: &mut Vec<u64>, address: usize, stopped: u16)
 
 /// The same where there may be none, as in most cycles.
 fn add_some(counts: &mut Vec<u64>, address: usize, stopped: u16)
-    requires within { 16 * address + 16 ≤ length counts.old.items }
-    ensures ones { ((bus : ℕ) → bus < 16 → slice_index counts.old.items (16 * address + bus) < 2 ^ 63)
-        → (a bus : ℕ) → bus < 16 → slice_index counts.new.items (16 * a + bus)
-        ≡ slice_index counts.old.items (16 * a + bus)
+    requires within { most_buses * address + most_buses ≤ length counts.old.items }
+    ensures ones { ((bus : ℕ) → bus < most_buses
+        → slice_index counts.old.items (most_buses * address + bus) < 2 ^ 63)
+        → (a bus : ℕ) → bus < most_buses → slice_index counts.new.items (most_buses * a + bus)
+        ≡ slice_index counts.old.items (most_buses * a + bus)
         + (if a == address && has_bit stopped bus then 1 else 0) }
     ensures size { length counts.new.items ≡ length counts.old.items }
 {
@@ -107,6 +110,7 @@ fn entry(row: &[u64], place: usize) -> u64
 }
 
 impl Counts {
+    ghost use Rattle.tta_profile.specs.Counts.{most_buses};
     ghost use Rattle.tta_profile.specs.Report.{active, outside_of};
     ghost use Rattle.std.specs.Prelude.{◌≡◌, ◌+◌, ◌*◌, ◌<◌, ◌≤◌, ◌^◌, ◌==◌, ◌&&◌, ℕ, length};
     ghost use Rattle.std.specs.Prelude.{if◌then◌else◌, replicate, slice_index, IfOk};
@@ -116,7 +120,7 @@ impl Counts {
     pub fn new(alloc: Global, words: usize) -> Result<Counts, AllocError>
         requires few { words ≤ 65536 }
         ensures executed { IfOk result (λ c. c.executed ≡ replicate words 0) }
-        ensures passed { IfOk result (λ c. c.passed ≡ replicate (16 * words) 0) }
+        ensures passed { IfOk result (λ c. c.passed ≡ replicate (most_buses * words) 0) }
         ensures outside_data { IfOk result (λ c. c.outside_data ≡ replicate words 0) }
         ensures outside_frame { IfOk result (λ c. c.outside_frame ≡ replicate words 0) }
     {
@@ -148,16 +152,16 @@ impl Counts {
 
     /// How often the move of a bus was passed over in the instruction of an address.
     pub fn passed(&self, address: usize, bus: usize) -> u64
-        requires low { bus < 16 }
+        requires low { bus < most_buses }
         requires few { address < 65536 }
-        ensures { result ≡ slice_index self.now.passed (16 * address + bus) }
+        ensures { result ≡ slice_index self.now.passed (most_buses * address + bus) }
     {
         entry(self.passed.as_slice(), BUSES * address + bus)
     }
 
     /// How often it was active.
     pub fn active(&self, address: usize, bus: usize) -> u64
-        requires low { bus < 16 }
+        requires low { bus < most_buses }
         requires few { address < 65536 }
         ensures { result ≡ active self.now address bus }
     {
@@ -215,15 +219,16 @@ impl Counts {
     /// Counts that the instruction of an address was carried out, and that guards stopped the moves of
     /// some buses. It does nothing where there is no such instruction.
     pub fn add(&mut self, address: usize, stopped: u16)
-        requires room { length self.old.passed ≡ 16 * length self.old.executed }
+        requires room { length self.old.passed ≡ most_buses * length self.old.executed }
         ensures executed { address < length self.old.executed
             → slice_index self.old.executed address < 2 ^ 63
             → (k : ℕ) → slice_index self.new.executed k
             ≡ slice_index self.old.executed k + (if k == address then 1 else 0) }
         ensures passed { address < length self.old.executed
-            → ((bus : ℕ) → bus < 16 → slice_index self.old.passed (16 * address + bus) < 2 ^ 63)
-            → (a bus : ℕ) → bus < 16 → slice_index self.new.passed (16 * a + bus)
-            ≡ slice_index self.old.passed (16 * a + bus)
+            → ((bus : ℕ) → bus < most_buses
+            → slice_index self.old.passed (most_buses * address + bus) < 2 ^ 63)
+            → (a bus : ℕ) → bus < most_buses → slice_index self.new.passed (most_buses * a + bus)
+            ≡ slice_index self.old.passed (most_buses * a + bus)
             + (if a == address && has_bit stopped bus then 1 else 0) }
         ensures size { length self.new.executed ≡ length self.old.executed }
         ensures size_passed { length self.new.passed ≡ length self.old.passed }

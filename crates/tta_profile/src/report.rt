@@ -5,6 +5,7 @@ ghost use Rattle.std.specs.Prelude.{OnOk};
 ghost use Rattle.std.specs.Option.{option_copied};
 ghost use Rattle.tta_ops.specs.Set.{stated};
 ghost use Rattle.tta_code.specs.Legal.{IsLegalCode};
+ghost use Rattle.tta_profile.specs.Counts.{most_buses};
 ghost use Rattle.tta_profile.specs.Report.{passed_text, all_passed_text, hot_text, hot_at_text};
 ghost use Rattle.tta_profile.specs.Report.{hottest_text, told_text, IsReport, bus_name};
 ghost use Rattle.tta_profile.specs.Report.{is_guarded, count_text, times_text, outside_text};
@@ -58,7 +59,7 @@ fn push_passed(
     bus: usize,
     slot: Option<Move>,
 ) -> Result<(), AllocError>
-    requires low { bus < 16 }
+    requires low { bus < most_buses }
     requires few { address < 65536 }
     ensures { OnOk result (out.new.items ≡ out.old.items
         ++ passed_text profiled.now.m.now profiled.now.counts.now address bus slot) }
@@ -78,7 +79,7 @@ fn push_all_passed(
     address: u32,
     slots: &[Option<Move>],
 ) -> Result<(), AllocError>
-    requires low { length slots.now ≤ 16 }
+    requires low { length slots.now ≤ most_buses }
     requires few { address < 65536 }
     ensures { OnOk result (out.new.items ≡ out.old.items
         ++ all_passed_text profiled.now.m.now profiled.now.counts.now address slots.now) }
@@ -127,7 +128,7 @@ fn push_hot(
     address: u32,
     i: &Instruction,
 ) -> Result<(), AllocError>
-    requires low { length i.now.moves ≤ 16 }
+    requires low { length i.now.moves ≤ most_buses }
     requires few { address < 65536 }
     ensures { let U = stated unit_meaning units.now in
         OnOk result (out.new.items ≡ out.old.items
@@ -142,9 +143,9 @@ fn push_hot(
 
 /// The instruction of an address, if there is one.
 fn instruction_at(words: &[Instruction], address: u32) -> Option<&Instruction>
-    requires low { All (λ i. length i.moves ≤ 16) words.now }
+    requires low { All (λ i. length i.moves ≤ most_buses) words.now }
     ensures is { option_copied result ≡ slice_get words.now address }
-    ensures low { IfSome result (λ i. length i.now.moves ≤ 16) }
+    ensures low { IfSome result (λ i. length i.now.moves ≤ most_buses) }
     ensures within { IfSome result (λ i. address < length words.now) }
 {
     words.get(address as usize)
@@ -158,7 +159,7 @@ fn push_hot_at(
     h: Hot,
 ) -> Result<(), AllocError>
     requires few { length profiled.now.words.now ≤ 65536 }
-    requires low { All (λ i. length i.moves ≤ 16) profiled.now.words.now }
+    requires low { All (λ i. length i.moves ≤ most_buses) profiled.now.words.now }
     ensures { let U = stated unit_meaning units.now in
         OnOk result (out.new.items ≡ out.old.items
         ++ hot_at_text U profiled.now.m.now profiled.now.counts.now profiled.now.words.now
@@ -178,7 +179,7 @@ fn push_hottest(
     order: &[Hot],
 ) -> Result<(), AllocError>
     requires few { length profiled.now.words.now ≤ 65536 }
-    requires low { All (λ i. length i.moves ≤ 16) profiled.now.words.now }
+    requires low { All (λ i. length i.moves ≤ most_buses) profiled.now.words.now }
     ensures { let U = stated unit_meaning units.now in
         OnOk result (out.new.items ≡ out.old.items ++ hottest_text U
         profiled.now.m.now profiled.now.counts.now profiled.now.words.now
@@ -199,7 +200,7 @@ fn push_told(
     order: &[Hot],
 ) -> Result<(), AllocError>
     requires few { length profiled.now.words.now ≤ 65536 }
-    requires low { All (λ i. length i.moves ≤ 16) profiled.now.words.now }
+    requires low { All (λ i. length i.moves ≤ most_buses) profiled.now.words.now }
     ensures { let U = stated unit_meaning units.now in
         OnOk result (out.new.items ≡ out.old.items ++ told_text U
         profiled.now.m.now profiled.now.words.now profiled.now.counts.now
@@ -214,7 +215,7 @@ pub fn words_of<'a>(m: &Machine, code: &'a Code) -> &'a [Instruction]
     requires { IsLegalCode m.now code.now }
     ensures words { result.now ≡ code.now.words }
     ensures few { length result.now ≤ 65536 }
-    ensures low { All (λ i. length i.moves ≤ 16) result.now }
+    ensures low { All (λ i. length i.moves ≤ most_buses) result.now }
 {
     // A machine has at most 65,536 addresses, and legal code no more instructions.
     let fits = code.words.len() <= m.addresses() as usize;

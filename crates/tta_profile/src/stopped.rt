@@ -7,7 +7,7 @@ ghost use Rattle.tta_arch.specs.Joins.{has_bit};
 ghost use Rattle.tta_code.specs.Cycle.{State};
 ghost use Rattle.tta_sim.specs.Held.{Stands};
 ghost use Rattle.tta_sim.specs.Moves.{is_askable, is_possible_slot};
-ghost use Rattle.tta_profile.specs.Counts.{is_stopped};
+ghost use Rattle.tta_profile.specs.Counts.{is_stopped, most_buses};
 
 use tta_arch::with_bus;
 use tta_code::Move;
@@ -40,7 +40,7 @@ fn is_slot_stopped(sim: &Sim, units: usize, slot: Option<Move>) -> bool
 
 /// A set with one bus more, where something holds.
 fn with_bus_if(buses: u16, bus: usize, test: bool) -> u16
-    requires { bus < 16 }
+    requires { bus < most_buses }
     ensures { (k : ℕ) → has_bit result k ≡ (has_bit buses k || (test && bus == k)) }
 {
     if test { with_bus(buses, bus) } else { buses }
@@ -48,7 +48,7 @@ fn with_bus_if(buses: u16, bus: usize, test: bool) -> u16
 
 /// The buses whose moves their guards stop in the next cycle.
 pub fn stopped_of(sim: &Sim, units: usize, slots: &[Option<Move>]) -> u16
-    requires few { length slots.now ≤ 16 }
+    requires few { length slots.now ≤ most_buses }
     requires possible { AllByRecursion (λ slot. IsTrue (is_possible_slot units slot)) slots.now }
     ensures { (s : State) → Stands sim.now s → (bus : ℕ)
         → has_bit result bus ≡ option_map_or (is_stopped s) (slice_index_or slots.now bus None) false }

@@ -2,6 +2,7 @@
 
 ghost use Rattle.std.specs.Prelude.{◌≡◌, ◌≤◌, ◌<◌, ◌*◌, ◌^◌, length, All};
 ghost use Rattle.std.specs.List.{sum_by};
+ghost use Rattle.tta_profile.specs.Counts.{most_buses};
 ghost use Rattle.tta_profile.specs.Report.{active, code_sum, cycles_sum, instruction_sum, is_asked};
 ghost use Rattle.tta_profile.specs.Report.{slot_sum, starts};
 
@@ -40,7 +41,7 @@ fn is_asked(test: Test, bus: usize, v: Move) -> bool
 
 /// How often the move of a slot was active, if it is asked for.
 fn slot_sum(counts: &Counts, test: Test, address: usize, bus: usize, slot: Option<Move>) -> u64
-    requires low { bus < 16 }
+    requires low { bus < most_buses }
     requires few { address < 65536 }
     ensures { result ≡ slot_sum counts.now test address bus slot }
 {
@@ -56,7 +57,7 @@ fn slot_sum(counts: &Counts, test: Test, address: usize, bus: usize, slot: Optio
 
 /// The sum of those of an instruction.
 fn instruction_sum(counts: &Counts, test: Test, address: usize, slots: &[Option<Move>]) -> u128
-    requires low { length slots.now ≤ 16 }
+    requires low { length slots.now ≤ most_buses }
     requires few { address < 65536 }
     ensures value { result ≡ instruction_sum counts.now test address slots.now }
     ensures small { result ≤ 2 ^ 68 }
@@ -71,7 +72,7 @@ fn instruction_sum(counts: &Counts, test: Test, address: usize, slots: &[Option<
 /// The sum of those of code.
 pub fn code_sum(counts: &Counts, test: Test, words: &[Instruction]) -> u128
     requires few { length words.now ≤ 65536 }
-    requires low { All (λ i. length i.moves ≤ 16) words.now }
+    requires low { All (λ i. length i.moves ≤ most_buses) words.now }
     ensures value { result ≡ code_sum counts.now test words.now }
     ensures small { result ≤ 2 ^ 84 }
 {

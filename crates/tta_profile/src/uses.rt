@@ -1,6 +1,7 @@
 //! How many cycles were made, what was used in them, and how many accesses were outside.
 
 ghost use Rattle.std.specs.Prelude.{◌≡◌, ◌≤◌, ◌++◌, ◌^◌, decimal, length, All, OnOk};
+ghost use Rattle.tta_profile.specs.Counts.{most_buses};
 ghost use Rattle.tta_profile.specs.Report.{share_text, used_text, bus_text, buses_text, unit_text};
 ghost use Rattle.tta_profile.specs.Report.{units_text, uses_text, percent, code_sum, space_text};
 
@@ -71,7 +72,7 @@ pub struct Profiled<'a> {
 /// How often moves that are asked for were active.
 fn sum_of(profiled: &Profiled<'_>, test: Test) -> u128
     requires few { length profiled.now.words.now ≤ 65536 }
-    requires low { All (λ i. length i.moves ≤ 16) profiled.now.words.now }
+    requires low { All (λ i. length i.moves ≤ most_buses) profiled.now.words.now }
     ensures value { result ≡ code_sum profiled.now.counts.now test profiled.now.words.now }
     ensures small { result ≤ 2 ^ 84 }
 {
@@ -81,7 +82,7 @@ fn sum_of(profiled: &Profiled<'_>, test: Test) -> u128
 /// Puts a bus, and how many moves it carried.
 fn push_bus(out: &mut Vec<u8>, profiled: &Profiled<'_>, bus: u8, b: &Bus) -> Result<(), AllocError>
     requires few { length profiled.now.words.now ≤ 65536 }
-    requires low { All (λ i. length i.moves ≤ 16) profiled.now.words.now }
+    requires low { All (λ i. length i.moves ≤ most_buses) profiled.now.words.now }
     ensures { OnOk result (out.new.items ≡ out.old.items
         ++ bus_text profiled.now.counts.now profiled.now.words.now profiled.now.whole bus b.now) }
 {
@@ -99,8 +100,8 @@ fn push_bus(out: &mut Vec<u8>, profiled: &Profiled<'_>, bus: u8, b: &Bus) -> Res
 /// Puts buses.
 fn push_buses(out: &mut Vec<u8>, profiled: &Profiled<'_>, buses: &[Bus]) -> Result<(), AllocError>
     requires few { length profiled.now.words.now ≤ 65536 }
-    requires low { All (λ i. length i.moves ≤ 16) profiled.now.words.now }
-    requires buses { length buses.now ≤ 16 }
+    requires low { All (λ i. length i.moves ≤ most_buses) profiled.now.words.now }
+    requires buses { length buses.now ≤ most_buses }
     ensures { OnOk result (out.new.items ≡ out.old.items
         ++ buses_text profiled.now.counts.now profiled.now.words.now profiled.now.whole buses.now) }
 {
@@ -118,7 +119,7 @@ fn push_unit(
     q: &Unit,
 ) -> Result<(), AllocError>
     requires few { length profiled.now.words.now ≤ 65536 }
-    requires low { All (λ i. length i.moves ≤ 16) profiled.now.words.now }
+    requires low { All (λ i. length i.moves ≤ most_buses) profiled.now.words.now }
     ensures { OnOk result (out.new.items ≡ out.old.items
         ++ unit_text profiled.now.counts.now profiled.now.words.now profiled.now.whole unit q.now) }
 {
@@ -136,7 +137,7 @@ fn push_unit(
 /// Puts units.
 fn push_units(out: &mut Vec<u8>, profiled: &Profiled<'_>, units: &[Unit]) -> Result<(), AllocError>
     requires few { length profiled.now.words.now ≤ 65536 }
-    requires low { All (λ i. length i.moves ≤ 16) profiled.now.words.now }
+    requires low { All (λ i. length i.moves ≤ most_buses) profiled.now.words.now }
     requires units { length units.now ≤ 32 }
     ensures { OnOk result (out.new.items ≡ out.old.items
         ++ units_text profiled.now.counts.now profiled.now.words.now profiled.now.whole units.now) }
@@ -163,7 +164,7 @@ fn push_space(out: &mut Vec<u8>, name: &[u8], counts: &[u64]) -> Result<(), Allo
 #[tactic(auto, unfolding(crate::specs::Report::uses_text))]
 pub fn push_uses(out: &mut Vec<u8>, profiled: &Profiled<'_>) -> Result<(), AllocError>
     requires few { length profiled.now.words.now ≤ 65536 }
-    requires low { All (λ i. length i.moves ≤ 16) profiled.now.words.now }
+    requires low { All (λ i. length i.moves ≤ most_buses) profiled.now.words.now }
     ensures { OnOk result (out.new.items ≡ out.old.items ++ uses_text
         profiled.now.m.now profiled.now.words.now profiled.now.counts.now profiled.now.whole) }
 {
