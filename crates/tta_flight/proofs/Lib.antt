@@ -14,3 +14,4 @@ pub mod Parts
 pub mod Walked
 pub mod Passed
 pub mod Rows
+pub mod Come

@@ -3,7 +3,7 @@ use Rattle.std.proofs.Common.{◌≡◌, ◌≢◌, ◌<◌, ◌+◌, ℕ, zero,
 use Rattle.std.specs.Prelude.{◌==◌, ◌&&◌, if◌then◌else◌}
 use Rattle.std.specs.Option.{option_or}
 use Rattle.std.proofs.lemmas.Bool.{eq-eqb, ne_eqb}
-use Rattle.tta_flight.specs.Rings.{Rings, shown_in, due_in, later_in, is_among, IsStarted, IsTurned, IsAdvanced, AreOver}
+use Rattle.tta_flight.specs.Rings.{Rings, shown_in, due_in, later_in, is_among, IsStarted, IsTurned, IsAdvanced, AreOver, IsSame, IsCome}
 use Rattle.tta_flight.proofs.Among.{among_here, among_other}
 use Rattle.tta_flight.proofs.Cells.{due_later, by_unit}
 
@@ -59,6 +59,45 @@ stepped_shown unit value a b c there is due_is shows = record {
     others : (u : ℕ) → u ≢ unit → u < length a.rings → (d : ℕ) → due_in c u d ≡ due_in a u d
     others u other had zero = shows.unit_apart u 0 (subst (λ n. u < n) (sym is.units) had) other ∙ is.now u
     others u other had (suc p) = shows.unit_apart u (suc p) (subst (λ n. u < n) (sym is.units) had) other ∙ is.unit_apart u p had other
+
+-- ---- the same where something may be due of it at this moment
+
+come_others : (unit : ℕ) (a b : Rings) → IsTurned unit a b → (u : ℕ) → u < length a.rings → u ≢ unit → IsSame u a b
+come_others unit a b is u had other = record { shown = is.shown u; due = each } where
+  each : (d : ℕ) → due_in b u d ≡ due_in a u d
+  each zero = is.now u
+  each (suc p) = is.unit_apart u p had other
+
+pub come_still : (unit : ℕ) (a b : Rings) → IsTurned unit a b → due_in a unit 1 ≡ None → IsCome unit a b
+come_still unit a b is none = record {
+  units = is.units;
+  longest = is.longest;
+  here = record {
+    shown = is.shown unit ∙ sym (ap (λ o. option_or o (shown_in a unit)) none);
+    now = is.now unit ∙ sym (ap (λ o. option_or o (due_in a unit 0)) none);
+    later = is.later;
+  };
+  others = come_others unit a b is;
+}
+
+pub come_shown : (unit value : ℕ) (a b c : Rings) → IsTurned unit a b → due_in a unit 1 ≡ Some value → IsStarted unit 0 value b c → IsCome unit a c
+come_shown unit value a b c is due_is shows = record {
+  units = shows.units ∙ is.units;
+  longest = λ u. shows.longest u ∙ is.longest u;
+  here = record {
+    shown = shown_at unit true (eq-eqb unit unit refl) ∙ sym (ap (λ o. option_or o (shown_in a unit)) due_is);
+    now = shows.here ∙ sym (ap (λ o. option_or o (due_in a unit 0)) due_is);
+    later = λ past. shows.delay_apart (suc past) (λ same. omega (arith, same)) ∙ is.later past;
+  };
+  others = λ u had other.
+      let before = come_others unit a b is u had other in
+      record {
+        shown = shown_at u false (ne_eqb u unit other) ∙ before.shown;
+        due = λ d. shows.unit_apart u d (subst (λ n. u < n) (sym is.units) had) other ∙ before.due d;
+      };
+} where
+  shown_at : (u : ℕ) (b0 : Bool) → (u == unit) ≡ b0 → shown_in c u ≡ (if b0 && true then Some value else shown_in b u)
+  shown_at u b0 same = shows.shown u ∙ ap (λ x. if x && true then Some value else shown_in b u) same
 
 -- ---- some units
 

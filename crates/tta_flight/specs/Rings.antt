@@ -143,6 +143,39 @@ pub record AreOver (base count : ℕ) (old new : Rings) : Type 0 where
   pub now : (u : ℕ) → due_in new u 0 ≡ (if is_among base count u then None else due_in old u 0)
   pub later : (u past : ℕ) → later_in new u past ≡ later_in old u past
 
+-- What was due at this moment is over, of every unit. All else is as before.
+pub record AreAllOver (old new : Rings) : Type 0 where
+  pub units : length new.rings ≡ length old.rings
+  pub longest : (u : ℕ) → longest_of new u ≡ longest_of old u
+  pub shown : (u : ℕ) → shown_in new u ≡ shown_in old u
+  pub now : (u : ℕ) → due_in new u 0 ≡ None
+  pub later : (u past : ℕ) → later_in new u past ≡ later_in old u past
+
+-- What is to come of a unit is one cycle nearer, and what comes shows. Where nothing comes, what is due at this moment stays.
+pub record HasCome (unit : ℕ) (old new : Rings) : Type 0 where
+  pub shown : shown_in new unit ≡ option_or (due_in old unit 1) (shown_in old unit)
+  pub now : due_in new unit 0 ≡ option_or (due_in old unit 1) (due_in old unit 0)
+  pub later : (past : ℕ) → later_in new unit past ≡ later_in old unit (past + 1)
+
+-- A unit is as before.
+pub record IsSame (unit : ℕ) (old new : Rings) : Type 0 where
+  pub shown : shown_in new unit ≡ shown_in old unit
+  pub due : (d : ℕ) → due_in new unit d ≡ due_in old unit d
+
+-- What is to come of one unit is one cycle nearer, and every other unit is as before.
+pub record IsCome (unit : ℕ) (old new : Rings) : Type 0 where
+  pub units : length new.rings ≡ length old.rings
+  pub longest : (u : ℕ) → longest_of new u ≡ longest_of old u
+  pub here : HasCome unit old new
+  pub others : (u : ℕ) → u < length old.rings → u ≢ unit → IsSame u old new
+
+-- What is to come of the units before an end is one cycle nearer, and every other unit is as before.
+pub record HaveCome (end : ℕ) (old new : Rings) : Type 0 where
+  pub units : length new.rings ≡ length old.rings
+  pub longest : (u : ℕ) → longest_of new u ≡ longest_of old u
+  pub come : (u : ℕ) → u < length old.rings → u < end → HasCome u old new
+  pub rest : (u : ℕ) → u < length old.rings → end ≤ u → IsSame u old new
+
 -- Nothing is due of the units from one on and before an end.
 abbrev pub AreEmpty : (from end : ℕ) → Rings → Type 0
 AreEmpty from end r = (unit delay : ℕ) → from ≤ unit → unit < end → due_in r unit delay ≡ None

@@ -1,12 +1,12 @@
 //! A region's next cycle.
 
-ghost use Rattle.std.specs.Prelude.{◌≡◌, ◌<◌, ◌≤◌, ◌+◌, ◌*◌, ◌/◌, ◌%◌, ◌^◌, ℕ, length, None};
+ghost use Rattle.std.specs.Prelude.{◌≡◌, ◌<◌, ◌≤◌, ◌+◌, ◌*◌, ◌/◌, ◌%◌, ◌^◌, ℕ, true, length, None};
 ghost use Rattle.std.specs.Int.{bit_at};
 ghost use Rattle.tta_flight.specs.Flight.{Flight, advanced, StandsFor, AdvancesAll, StayBeside};
 ghost use Rattle.tta_flight.specs.Rings.{IsAdvanced, IsTurned, AdvancesWord, EndsWord};
-ghost use Rattle.tta_flight.specs.Rings.{due_in, later_in};
+ghost use Rattle.tta_flight.specs.Rings.{IsCome, HaveCome, AreAllOver, due_in, later_in};
 
-use crate::marked::{bits_of_units, bits_of_word, least_bit, without_bit};
+use crate::marked::{Marked, bits_of_units, bits_of_word, least_bit, without_bit};
 use crate::region::Region;
 
 impl Region {
@@ -26,12 +26,13 @@ impl Region {
         due
     }
 
-    /// Goes to the next cycle of a unit of which nothing is due at this moment.
+    /// Lets what is to come of a unit be one cycle nearer. Where nothing is due of it at this moment,
+    /// it goes to its next cycle.
     #[inline(always)]
     fn step(&mut self, unit: usize)
-        requires unit { unit < length self.old.rings }
-        requires over { due_in self.old unit 0 ≡ None }
-        ensures { IsAdvanced unit 1 self.old self.new }
+        requires { unit < length self.old.rings }
+        ensures come { IsCome unit self.old self.new }
+        ensures advanced { due_in self.old unit 0 ≡ None → IsAdvanced unit 1 self.old self.new }
     {
         if let Some(value) = self.take(unit) {
             self.show(unit, value);
@@ -131,6 +132,41 @@ impl Region {
             return;
         }
         self.steps(base, count);
+    }
+
+    /// Whether nothing is to come of any unit, of 63 at most. It may say no where that is so.
+    #[inline(always)]
+    pub fn is_still(&self) -> bool
+        requires { length self.now.rings < 64 }
+        ensures { result ≡ true → (unit past : ℕ) → unit < length self.now.rings
+            → later_in self.now unit past ≡ None }
+    {
+        self.word(0, u64::MAX) == 0
+    }
+
+    /// Lets what is due at this moment be over, of every unit.
+    #[inline(always)]
+    pub fn pass_all(&mut self)
+        ensures { AreAllOver self.old self.new }
+    {
+        self.fresh = Marked::none();
+    }
+
+    /// Lets what is to come of every unit, of 63 at most, be one cycle nearer. What comes shows. What
+    /// is due at this moment is not over by that.
+    #[inline(always)]
+    pub fn come_all(&mut self)
+        requires { length self.old.rings < 64 }
+        ensures { HaveCome (length self.old.rings) self.old self.new }
+    {
+        let mut left = self.word(0, bits_of_units(0, self.units()));
+        let mut at = 0;
+        'bits: while left != 0 {
+            let bit = least_bit(left);
+            self.step(bit);
+            at = bit + 1;
+            left = without_bit(left, bit);
+        }
     }
 
     /// Goes to the next cycle.

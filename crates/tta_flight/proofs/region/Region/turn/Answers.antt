@@ -28,21 +28,13 @@ bit_of number bit few = omega (arith, few)
 mark_of : (among number bit : ℕ) → bit < 64 → bit_at among bit ≡ 1 → bit_at among ((64 * number + bit) % 64) ≡ 1
 mark_of among number bit few is = ap (bit_at among) (bit_of number bit few) ∙ is
 
-pub step-requires-clause-unit : goal.step-requires-clause-unit
-step-requires-clause-unit c =
+pub step-requires : goal.step-requires
+step-requires c =
     let few = c.least_bit-bit.ensures.few in
     let mark = c.bits.invariant.some c.least_bit-bit.result few c.least_bit-bit.ensures.some in
     let there = c.requires.there (64 * c.args.number + c.least_bit-bit.result) (here_of c.args.number c.least_bit-bit.result few)
     (mark_of c.args.among c.args.number c.least_bit-bit.result few mark) in
     omega (arith, there, c.bits.invariant.units)
-
-pub step-requires-clause-over : goal.step-requires-clause-over
-step-requires-clause-over c =
-    let few = c.least_bit-bit.ensures.few in
-    let mark = c.bits.invariant.some c.least_bit-bit.result few c.least_bit-bit.ensures.some in
-    let later = no_bit_before c.bits.at (64 * c.args.number) c.least_bit-bit.result c.bits.left c.bits.invariant.low c.least_bit-bit.ensures.some in
-    c.bits.invariant.over (64 * c.args.number + c.least_bit-bit.result) later (here_of c.args.number c.least_bit-bit.result few)
-    (mark_of c.args.among c.args.number c.least_bit-bit.result few mark)
 
 pub bits-preserved : goal.bits-preserved
 bits-preserved c =
@@ -54,13 +46,14 @@ bits-preserved c =
     let unit : ℕ = 64 * number + bit in
     let later : at ≤ unit = no_bit_before at (64 * number) bit c.bits.left c.bits.invariant.low c.least_bit-bit.ensures.some in
     let mark = mark_of among number bit few (c.bits.invariant.some bit few c.least_bit-bit.ensures.some) in
+    let stepped = c.step.ensures.advanced (c.bits.invariant.over unit later (here_of number bit few) mark) in
     let there : unit < length c.bits.self.rings = omega (arith, c.requires.there unit (here_of number bit few) mark, c.bits.invariant.units) in
     let stays : (u d : ℕ) → unit + 1 ≤ u → u / 64 ≡ number → bit_at among (u % 64) ≡ 1 → due_in c.step.new.self u d ≡ due_in c.bits.self u d =
-    λ u d past here is. due_past unit 1 u d c.bits.self c.step.new.self c.step.ensures (omega (arith, c.requires.there u here is, c.bits.invariant.units)) past in
+    λ u d past here is. due_past unit 1 u d c.bits.self c.step.new.self stepped (omega (arith, c.requires.there u here is, c.bits.invariant.units)) past in
     record {
       after = omega (arith, later, c.bits.invariant.after);
       within = omega (arith, few);
-      units = c.step.ensures.units ∙ c.bits.invariant.units;
+      units = stepped.units ∙ c.bits.invariant.units;
       advanced = λ base end order are.
           let span = within_bits number base end among are unit (here_of number bit few) mark in
           let empty : AreEmpty (nearest base end at) (nearest base end unit) c.bits.self = λ u d least most.
@@ -73,7 +66,7 @@ bits-preserved c =
           let off = c.least_bit-bit.ensures.none (u % 64) (bit_before number at bit u here c.bits.invariant.after from before) in
           none_due c.bits.self u (c.bits.invariant.over u from here is) (λ past. c.bits.invariant.still u past from here is off) d in
           advanced_next base end order (64 * number) at unit _ _ _ c.bits.invariant.after later (c.bits.invariant.advanced base end order are) empty
-          (advanced_one base end order unit _ _ span.0 span.1 c.step.ensures);
+          (advanced_one base end order unit _ _ span.0 span.1 stepped);
       low = λ i up. none_up_to bit i c.bits.left c.without_bit-left.result (omega (arith, up)) few c.least_bit-bit.ensures.none
           c.without_bit-left.ensures.none c.without_bit-left.ensures.others;
       some = λ i below is.
