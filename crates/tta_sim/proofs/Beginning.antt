@@ -171,7 +171,7 @@ module _ (now : ℕ) (r : Results) (there : AreThere r) (done : List Result') (d
         ∙ ap (λ o. option_or (word_due o) (due_in r.rings (r.base + unit) (delay + 1))) (sym (or_none (due_at unit (now + 1 + delay) done)))
 
 -- other units' results are none of this one's
-no_result : (now unit due : ℕ) (dues : List Due) → AllByRecursion (λ a. (a.unit == unit) ≡ false) dues → due_at unit due (map (started_at now) dues) ≡ None
+pub no_result : (now unit due : ℕ) (dues : List Due) → AllByRecursion (λ a. (a.unit == unit) ≡ false) dues → due_at unit due (map (started_at now) dues) ≡ None
 no_result now unit due [] others = refl
 no_result now unit due (d ∷ dues) others = let rest = no_result now unit due dues others.1 in grind (arith, rest, others.0)
 

@@ -12,6 +12,7 @@ use Rattle.tta_sim.specs.Results.{Results, results_at}
 use Rattle.tta_sim.specs.Unset.{IsFaultOf}
 use Rattle.tta_sim.specs.Kept.{Kept, kept_as, IsCycle}
 use Rattle.tta_sim.proofs.Acting.{carried_fault}
+use Rattle.tta_sim.proofs.Growing.{words_same}
 use Rattle.tta_sim.proofs.Owning.{others_same}
 
 at_fault : (U : Units) (part : Part) (delay : ℕ) (line : Line) (next : Option ℕ) (old : Kept) (r : Results) (fault : Option ℕ) (number : ℕ)
@@ -29,6 +30,7 @@ at_fault U part delay line next old r fault number r_is is_fault is = record {
   waits = λ lines is. cc;
   stays = λ is. cc;
   others = others_same part old.region;
+  words = words_same old.store.places (results_at part old.region);
 }
 
 -- the run stays as it is, but for its phase

@@ -26,3 +26,10 @@ pub mod Taking
 pub mod UnsetReads
 pub mod Leaving
 pub mod Owning
+pub mod Ordered
+pub mod Placed
+pub mod Ahead
+pub mod InTurn
+pub mod Settled
+pub mod Growing
+pub mod Marking

@@ -24,7 +24,7 @@ pub use Rattle.tta_code.specs.declared.code.Instruction.{Instruction}
 pub use Rattle.tta_code.specs.declared.code.Long.{Long}
 pub use Rattle.tta_code.specs.declared.code.Move.{Move}
 pub use Rattle.tta_flight.specs.Flight.{StandsFor, StayBeside}
-pub use Rattle.tta_flight.specs.Rings.{IsAdvanced, IsStarted, Rings, due_in, is_among, longest_of, rings_of, shown_in}
+pub use Rattle.tta_flight.specs.Rings.{AreAllOver, HasCome, HaveCome, IsAdvanced, IsStarted, Rings, due_in, is_among, later_in, longest_of, rings_of, shown_in}
 pub use Rattle.tta_flight.specs.declared.marked.Marked.{Marked}
 pub use Rattle.tta_flight.specs.declared.ring.Ring.{Ring}
 pub use Rattle.tta_list.specs.Input.{IsFed, left}

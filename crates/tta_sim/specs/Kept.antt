@@ -11,6 +11,7 @@ use Rattle.tta_sim.specs.declared.results.Part.{Part}
 use Rattle.tta_sim.specs.Held.{HeldState, StandsWith, GoesWith, is_fault, has_taken, cycles_of}
 use Rattle.tta_sim.specs.Results.{Results, AreThere, results_at}
 use Rattle.tta_sim.specs.Decoded.{IsDecoded}
+use Rattle.tta_sim.specs.Known.{KeepsWords}
 use Rattle.tta_sim.specs.Lines.{IsLineThere}
 use Rattle.tta_sim.specs.Ready.{FitsLine, KeepsOthers}
 use Rattle.tta_sim.specs.Controls.{underway, outcome_of}
@@ -71,7 +72,7 @@ pub record IsAtLine (part : Part) (line : Line) (k : Kept) : Type 0 where
 
 -- A cycle of a run with this line: the run stands for the state to which the cycle takes the one for which it stood, and answers
 -- what became of it. It takes a word of the input only where there is one. Where it waits, all stays. Every unit of the region that is
--- none of the machine's stays.
+-- none of the machine's stays. No place and no result port loses its word.
 pub record IsCycle (U : Units) (part : Part) (delay : ℕ) (line : Line) (next : Option ℕ) (old new : Kept) (answer : CycleStep) : Type 0 where
   pub carried : (m : Machine) (i : Instruction) (lines : List Line) (s : State) → IsDecoded m (old.control.pc + 1 + delay) i line
       → part.count ≡ length m.units → delay ≡ m.control.delay
@@ -84,3 +85,4 @@ pub record IsCycle (U : Units) (part : Part) (delay : ℕ) (line : Line) (next :
   pub waits : (lines : List Line) → answer ≡ Waits → held_of lines new.store new.control ≡ held_of lines old.store old.control
   pub stays : answer ≡ Waits → new.region ≡ old.region
   pub others : KeepsOthers part old.region new.region
+  pub words : KeepsWords old.store.places new.store.places (results_at part old.region) (results_at part new.region)

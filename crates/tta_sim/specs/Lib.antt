@@ -12,3 +12,6 @@ pub mod Results
 pub mod Starts
 pub mod Unset
 pub mod Writing
+pub mod Order
+pub mod Known
+pub mod InPlace

@@ -1,8 +1,9 @@
 //! Results that begin.
 
 ghost use Rattle.std.specs.Prelude.{ℕ, map};
-ghost use Rattle.tta_sim.specs.Results.{results_at, AreThere};
+ghost use Rattle.tta_sim.specs.Results.{results_at, shown_by, AreThere};
 ghost use Rattle.tta_sim.specs.Dues.{started_at, CanAllBegin, CanBegin, HasBegun};
+ghost use Rattle.tta_sim.specs.Known.{Grows};
 ghost use Rattle.tta_sim.specs.Ready.{Begin, KeepsOthers};
 
 use crate::dues::Due;
@@ -26,6 +27,8 @@ pub fn begin_all(region: &mut Region, part: Part, dues: &[Due])
     requires can { CanAllBegin (results_at part region.old) dues.now }
     ensures begun { (now : ℕ) → let new = map (started_at now) dues.now in
         Begin new now (results_at part region.old) (results_at part region.new) }
+    ensures ports { Grows (shown_by (results_at part region.old))
+        (shown_by (results_at part region.new)) }
     ensures others { KeepsOthers part region.old region.new }
 {
     region.advance_units(part.base, part.count);

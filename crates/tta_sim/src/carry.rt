@@ -1,11 +1,12 @@
 //! One instruction.
 
 ghost use Rattle.std.specs.Prelude.{◌≡◌, ◌+◌, ◌<◌, ◌^◌, ◌++◌, ◌&&◌, ℕ, Option, true, fold, is_none};
-ghost use Rattle.std.specs.Prelude.{option_map};
+ghost use Rattle.std.specs.Prelude.{None, option_map, slice_index_or};
 ghost use Rattle.std.specs.List.{find, AllByRecursion};
 ghost use Rattle.tta_ops.specs.Set.{stated};
 ghost use Rattle.tta_arch.specs.Effects.{Written, store_data, store_frame};
 ghost use Rattle.tta_sim.specs.Places.{HasWritten};
+ghost use Rattle.tta_sim.specs.Known.{Grows};
 ghost use Rattle.tta_sim.specs.Starts.{puts};
 ghost use Rattle.tta_sim.specs.Writing.{numbered, ArePlaces};
 ghost use Rattle.tta_sim.specs.declared.cycle_step.CycleStep.TheVariants.{Fault};
@@ -65,6 +66,8 @@ fn go_on(store: &mut Store, writes: &[Write])
     requires few { store.old.cycle + 256 < 2 ^ 64 }
     ensures written { (new old : Written) → writes.now ≡ numbered new → ArePlaces new
         → HasWritten store.old.places old → HasWritten store.new.places (new ++ old) }
+    ensures grows { Grows (λ k. slice_index_or store.old.places k None)
+        (λ k. slice_index_or store.new.places k None) }
     ensures cycle { store.new.cycle ≡ store.old.cycle + 1 }
     ensures data { store.new.memory.items ≡ store.old.memory.items }
     ensures frame { store.new.frame.items ≡ store.old.frame.items }

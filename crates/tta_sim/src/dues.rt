@@ -29,7 +29,7 @@ pub struct Due {
 
 /// The word that an operation shows, if it shows one, where `next` is the next word of the input.
 #[inline(always)]
-fn result_of(
+pub fn result_of(
     units: &UnitSet,
     memory: &[u32],
     frame: &[u32],

@@ -1,6 +1,7 @@
 //! The words of registers and operand ports.
 
-ghost use Rattle.std.specs.Prelude.{◌≡◌, ◌<◌, [], ◌∷◌, None, slice_index_or, IfOk, IsTrue};
+ghost use Rattle.std.specs.Prelude.{◌≡◌, ◌<◌, ◌==◌, [], ◌∷◌, ℕ, None, Some, if◌then◌else◌};
+ghost use Rattle.std.specs.Prelude.{slice_index_or, IfOk, IsTrue};
 ghost use Rattle.tta_arch.specs.Effects.{KeptReg, KeptImm, KeptOperand, KeptRa, Place, Written};
 ghost use Rattle.tta_sim.specs.Places.{is_place, number_of, word_at, HasWritten};
 
@@ -95,7 +96,9 @@ impl Places {
     /// Puts a word into the place with this number in the row.
     pub fn set(&mut self, number: usize, word: u32)
         requires { number < 609 }
-        ensures { (p : Place) → (written : Written) → IsTrue (is_place p) → number_of p ≡ number
+        ensures at { (k : ℕ) → slice_index_or self.new k None
+            ≡ (if k == number then Some word else slice_index_or self.old k None) }
+        ensures written { (p : Place) → (written : Written) → IsTrue (is_place p) → number_of p ≡ number
             → HasWritten self.old written → HasWritten self.new ((p, word) ∷ written) }
     {
         self.words[number] = Some(word);

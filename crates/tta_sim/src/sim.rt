@@ -18,7 +18,7 @@ ghost use Rattle.tta_sim.specs.Held.{cycles_of, goes_quietly, is_halted, fault_n
 ghost use Rattle.tta_sim.specs.declared.cycle_step.CycleStep.TheVariants.{Waiting};
 
 use crate::cycle_step::CycleStep;
-use crate::ending::Ending;
+use crate::mark::{Mark, marks_of};
 use crate::state::SimState;
 use std::alloc::{AllocError, Global};
 use std::marker::Model;
@@ -34,16 +34,22 @@ const LONGEST: u8 = 16;
 /// results that are still to come, and control. The input and the output are not kept.
 #[derive(Drop)]
 pub struct Sim {
-    state: SimState,
-    region: Region,
+    pub(crate) state: SimState,
+    pub(crate) region: Region,
+    /// What is known of each line of the code.
+    marks: Vec<Mark>,
 }
 
 impl Model for Sim {
     ghost use Rattle.tta_sim.specs.Held.{Held, held_with};
+    ghost use Rattle.tta_sim.specs.Known.{all_shown, AreMarked};
 
     ghost Value = { Held };
 
     ghost view = { λ s. held_with s.state s.region };
+
+    ghost invariant = { λ s.
+        AreMarked s.state.places (all_shown s.region) s.state.lines s.marks.items };
 }
 
 /// The longest latency that there is, for each of so many units.
@@ -70,7 +76,7 @@ impl Sim {
     /// is 0, and the data words are these.
     ///
     /// It takes all memory that the run needs: room for each register and port, for 16 results of
-    /// each unit that are to come, and for the code once more, decoded.
+    /// each unit that are to come, and for the code once more, decoded, with a mark for each line.
     pub fn load(
         alloc: Global,
         m: &Machine,
@@ -85,7 +91,12 @@ impl Sim {
     {
         let state = SimState::load(alloc, m, code, memory)?;
         let region = region_of(alloc, m)?;
-        Ok(Sim { state, region })
+        let marks = marks_of(alloc, state.lines())?;
+        Ok(Sim {
+            state,
+            region,
+            marks,
+        })
     }
 
     /// Carries out one cycle of the code that was loaded, where `next` is the next word of the
@@ -116,8 +127,25 @@ impl Sim {
         self.state.cycle(&mut self.region, 0, m, code, units, next)
     }
 
-    /// Carries out one cycle as `go_on` does, and answers whether it did.
+    /// Carries out one cycle with a line that is in order and settled, in place, and answers whether
+    /// it did.
     #[inline(always)]
+    fn cycle_in_place(&mut self, m: &Machine, code: &Code, units: &UnitSet) -> bool
+        requires loaded { IsRunOf m.now code.now self.old }
+        requires few { self.old.cycle < 2 ^ 62 }
+        ensures loaded { IsRunOf m.now code.now self.new }
+        ensures stays { result ≡ false → self.new ≡ self.old }
+        ensures counted { self.new.cycle ≤ self.old.cycle + (if result then 1 else 0) }
+        ensures next { let U = stated unit_meaning units.now in (s : State) → Stands self.old s
+            → IsQuiet (Stands self.new) s (if result then next_state U m.now code.now s else s) }
+    {
+        self.state
+            .cycle_in_place(&mut self.region, &mut self.marks, m, code, units)
+    }
+
+    /// Carries out one cycle with a quiet line, and answers whether it did. It is not in line, since
+    /// most cycles are made in place.
+    #[inline(never)]
     fn cycle_quietly(&mut self, m: &Machine, code: &Code, units: &UnitSet) -> bool
         requires loaded { IsRunOf m.now code.now self.old }
         requires few { self.old.cycle < 2 ^ 62 }
@@ -132,9 +160,28 @@ impl Sim {
             .cycle_quietly(&mut self.region, 0, m, code, units)
     }
 
+    /// Carries out one cycle as `go_on` does, and answers whether it did.
+    #[inline(always)]
+    fn cycle_silently(&mut self, m: &Machine, code: &Code, units: &UnitSet) -> bool
+        requires loaded { IsRunOf m.now code.now self.old }
+        requires few { self.old.cycle < 2 ^ 62 }
+        ensures loaded { IsRunOf m.now code.now self.new }
+        ensures stops { result ≡ false
+            → goes_quietly self.new.lines self.new.pc self.new.outcome ≡ false }
+        ensures counted { self.new.cycle ≤ self.old.cycle + (if result then 1 else 0) }
+        ensures next { let U = stated unit_meaning units.now in (s : State) → Stands self.old s
+            → IsQuiet (Stands self.new) s (if result then next_state U m.now code.now s else s) }
+    {
+        if self.cycle_in_place(m, code, units) {
+            return true;
+        }
+        self.cycle_quietly(m, code, units)
+    }
+
     /// Carries out so many cycles of the code that was loaded, or as many as there are until a line
-    /// is not quiet, so that it may store, output or take a word, or make control act, or until the run
-    /// is over. It answers how many it carried out, one that faults among them. It takes no memory.
+    /// may output or take a word, or may store or make control act and is not carried out in place, or
+    /// until the run is over. It answers how many it carried out, one that faults among them. It takes
+    /// no memory.
     #[inline(always)]
     pub fn go_on(&mut self, m: &Machine, code: &Code, units: &UnitSet, most: u64) -> u64
         requires loaded { IsRunOf m.now code.now self.old }
@@ -149,118 +196,11 @@ impl Sim {
     {
         let mut made = 0;
         'cycles: while made < most {
-            if !self.cycle_quietly(m, code, units) {
+            if !self.cycle_silently(m, code, units) {
                 return made;
             }
             made += 1;
         }
         made
-    }
-
-    /// The word in a register of a file, `None` where none was ever written.
-    pub fn reg(&self, file: u8, index: u8) -> Option<u32>
-        requires { IsTrue (is_place (KeptReg file index)) }
-        ensures { (s : State) → Stands self.now s → result ≡ kept s.written (KeptReg file index) }
-    {
-        self.state.reg(file, index)
-    }
-
-    /// The word in a register of an immediate unit, `None` where none was ever written.
-    pub fn immediate(&self, unit: u8, index: u8) -> Option<u32>
-        requires { IsTrue (is_place (KeptImm unit index)) }
-        ensures { (s : State) → Stands self.now s
-            → result ≡ kept s.written (KeptImm unit index) }
-    {
-        self.state.immediate(unit, index)
-    }
-
-    /// The word at a unit's operand port, `None` where none was ever brought.
-    pub fn operand(&self, unit: u8) -> Option<u32>
-        requires { IsTrue (is_place (KeptOperand unit)) }
-        ensures { (s : State) → Stands self.now s → result ≡ kept s.written (KeptOperand unit) }
-    {
-        self.state.operand(unit)
-    }
-
-    /// The return address, `None` where none was ever kept.
-    pub fn return_address(&self) -> Option<u32>
-        ensures { (s : State) → Stands self.now s → result ≡ kept s.written KeptRa }
-    {
-        self.state.return_address()
-    }
-
-    /// The word on a unit's result port, `None` where no result was due yet.
-    pub fn port(&self, unit: u8) -> Option<u32>
-        requires { unit < length self.now.shown }
-        ensures { (s : State) → Stands self.now s → result ≡ port_of s unit }
-    {
-        self.region.port(unit)
-    }
-
-    /// The result of a unit that is due `delay` cycles from now, `None` where none is.
-    pub fn due(&self, unit: u8, delay: u8) -> Option<u32>
-        requires unit { unit < length self.now.shown }
-        requires few { self.now.cycle < 2 ^ 63 }
-        ensures { (s : State) → Stands self.now s
-            → result ≡ option_map (λ r. r.value) (due_at unit (s.cycle + delay) s.started) }
-    {
-        self.region.due(unit, delay)
-    }
-
-    /// A data word.
-    pub fn mem(&self, i: u32) -> u32
-        requires { i < length self.now.memory }
-        ensures { result ≡ slice_index self.now.memory i }
-    {
-        self.state.mem(i)
-    }
-
-    /// All data words, from address 0 on.
-    pub fn memory(&self) -> &[u32]
-        ensures { result.now ≡ self.now.memory }
-    {
-        self.state.memory()
-    }
-
-    /// All frame words, from address 0 on.
-    pub fn frame(&self) -> &[u32]
-        ensures { result.now ≡ self.now.frame }
-    {
-        self.state.frame()
-    }
-
-    /// The address of the next instruction.
-    pub fn pc(&self) -> u32
-        ensures { result ≡ self.now.pc }
-    {
-        self.state.pc()
-    }
-
-    /// How many cycles were made.
-    pub fn cycles(&self) -> u64
-        ensures { result ≡ self.now.cycle }
-    {
-        self.state.cycles()
-    }
-
-    /// Whether the run has halted.
-    pub fn halted(&self) -> bool
-        ensures { result ≡ is_halted self.now.outcome }
-    {
-        self.state.halted()
-    }
-
-    /// The number of the fault that the run is at, `None` where it is at none.
-    pub fn fault(&self) -> Option<u8>
-        ensures { result ≡ fault_number self.now.outcome }
-    {
-        self.state.fault()
-    }
-
-    /// How the run stands.
-    pub fn ending(&self) -> Ending
-        ensures { as_outcome result ≡ self.now.outcome }
-    {
-        self.state.ending()
     }
 }

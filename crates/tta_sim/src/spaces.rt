@@ -39,7 +39,7 @@ fn store(space: &mut Vec<u32>, address: u32, word: u32)
 }
 
 /// Stores an operation's word in the space that it is for, if it stores.
-fn store_one(memory: &mut Vec<u32>, frame: &mut Vec<u32>, start: &Start)
+pub fn store_one(memory: &mut Vec<u32>, frame: &mut Vec<u32>, start: &Start)
     ensures data { memory.new.items ≡ store_data memory.old.items start.now }
     ensures frame { frame.new.items ≡ store_frame frame.old.items start.now }
 {

@@ -52,7 +52,7 @@ pub fn is_loud(op: Op) -> bool
 
 /// Whether a unit's result of an operation would be due at the time of another one.
 #[inline(always)]
-fn clashes(results: &Results<'_>, unit: u8, does: &UnitOp) -> bool
+pub fn clashes(results: &Results<'_>, unit: u8, does: &UnitOp) -> bool
     requires { unit < results.now.units }
     ensures { result ≡ clashes_at results.now unit does.now }
 {

@@ -1,17 +1,16 @@
 //! A run whose results are kept in a region that it is given.
 
-ghost use Rattle.std.specs.Prelude.{◌≡◌, ◌+◌, ◌<◌, ◌≤◌, ◌^◌, [], ℕ, List, length, slice_index};
-ghost use Rattle.std.specs.Prelude.{IfOk, IsTrue, if◌then◌else◌, true, false, ◌&&◌, is_none};
+ghost use Rattle.std.specs.Prelude.{◌≡◌, ◌+◌, ◌<◌, ◌≤◌, ◌^◌, [], ℕ, List, length};
+ghost use Rattle.std.specs.Prelude.{IfOk, if◌then◌else◌, true, false, ◌&&◌, is_none};
 ghost use Rattle.tta_ops.specs.Set.{stated};
-ghost use Rattle.tta_arch.specs.Effects.{KeptReg, KeptImm, KeptOperand, KeptRa, kept};
 ghost use Rattle.tta_code.specs.Cycle.{State, Running, next as next_state, start};
 ghost use Rattle.tta_code.specs.Legal.{IsLegalCode};
 ghost use Rattle.tta_flight.specs.Flight.{StayBeside};
-ghost use Rattle.tta_sim.specs.Places.{is_place};
+ghost use Rattle.tta_sim.specs.Known.{KeepsWords};
 ghost use Rattle.tta_sim.specs.Results.{Results, AreResultsOf, AreKept, HasUnits, units_of};
 ghost use Rattle.tta_list.specs.Input.{IsFed};
 ghost use Rattle.tta_sim.specs.Held.{StandsWith, GoesWith, IsAnswer, IsQuiet, IsStateOf, has_taken};
-ghost use Rattle.tta_sim.specs.Held.{cycles_of, goes_quietly, is_halted, fault_number, as_outcome};
+ghost use Rattle.tta_sim.specs.Held.{cycles_of, goes_quietly};
 ghost use Rattle.tta_sim.specs.declared.cycle_step.CycleStep.TheVariants.{Waiting};
 
 use crate::carry::{carry, carry_quietly};
@@ -19,11 +18,9 @@ use crate::control::{Control, Phase};
 use crate::cycle_step::CycleStep;
 use crate::decode::decode;
 use crate::decoded::Line;
-use crate::ending::Ending;
 use crate::fault::NO_INSTRUCTION;
 use crate::results::Part;
 use crate::run::{Context, Run};
-use crate::spaces::load;
 use crate::store::{CycleBuffers, Store};
 use std::alloc::{AllocError, Global};
 use std::marker::Model;
@@ -37,9 +34,9 @@ use tta_ops::UnitSet;
 /// keep: the words of places and spaces, and control. The input and the output are not kept.
 #[derive(Drop)]
 pub struct SimState {
-    run: Run,
+    pub(crate) run: Run,
     /// The code that is run, decoded.
-    lines: Items<Line>,
+    pub(crate) lines: Items<Line>,
 }
 
 impl Model for SimState {
@@ -52,7 +49,7 @@ impl Model for SimState {
 }
 
 /// The units of a machine in a region, where the first of them is `base`.
-fn part_of(base: u8, m: &Machine) -> Part
+pub fn part_of(base: u8, m: &Machine) -> Part
     ensures { result ≡ record { base = base; count = length m.now.units } }
 {
     Part {
@@ -112,6 +109,8 @@ impl SimState {
         ensures loaded { IsStateOf m.now code.now self.new }
         ensures kept { AreKept region.old region.new }
         ensures beside { StayBeside base (length m.now.units) region.old region.new }
+        ensures words { KeepsWords self.old.places self.new.places
+            (units_of base m.now region.old) (units_of base m.now region.new) }
         ensures counted { self.new.cycle ≡ self.old.cycle + cycles_of result }
         ensures next { let U = stated unit_meaning units.now in (s : State)
             → StandsWith (units_of base m.now region.old) self.old s → IsFed s.rest next
@@ -160,6 +159,8 @@ impl SimState {
         ensures loaded { IsStateOf m.now code.now self.new }
         ensures kept { AreKept region.old region.new }
         ensures beside { StayBeside base (length m.now.units) region.old region.new }
+        ensures words { KeepsWords self.old.places self.new.places
+            (units_of base m.now region.old) (units_of base m.now region.new) }
         ensures waits { result ≡ false → self.new ≡ self.old }
         ensures stays { result ≡ false → region.new ≡ region.old }
         ensures stops { result ≡ false
@@ -192,109 +193,5 @@ impl SimState {
         };
         carry_quietly(&mut self.run, region, &context, line);
         true
-    }
-
-    /// The word in a register of a file, `None` where none was ever written.
-    pub fn reg(&self, file: u8, index: u8) -> Option<u32>
-        requires { IsTrue (is_place (KeptReg file index)) }
-        ensures { (r : Results) (s : State) → StandsWith r self.now s
-            → result ≡ kept s.written (KeptReg file index) }
-    {
-        self.run.store.places.register(file, index)
-    }
-
-    /// The word in a register of an immediate unit, `None` where none was ever written.
-    pub fn immediate(&self, unit: u8, index: u8) -> Option<u32>
-        requires { IsTrue (is_place (KeptImm unit index)) }
-        ensures { (r : Results) (s : State) → StandsWith r self.now s
-            → result ≡ kept s.written (KeptImm unit index) }
-    {
-        self.run.store.places.immediate(unit, index)
-    }
-
-    /// The word at a unit's operand port, `None` where none was ever brought.
-    pub fn operand(&self, unit: u8) -> Option<u32>
-        requires { IsTrue (is_place (KeptOperand unit)) }
-        ensures { (r : Results) (s : State) → StandsWith r self.now s
-            → result ≡ kept s.written (KeptOperand unit) }
-    {
-        self.run.store.places.operand(unit)
-    }
-
-    /// The return address, `None` where none was ever kept.
-    pub fn return_address(&self) -> Option<u32>
-        ensures { (r : Results) (s : State) → StandsWith r self.now s → result ≡ kept s.written KeptRa }
-    {
-        self.run.store.places.return_address()
-    }
-
-    /// A data word.
-    pub fn mem(&self, i: u32) -> u32
-        requires { i < length self.now.memory }
-        ensures { result ≡ slice_index self.now.memory i }
-    {
-        load(self.run.store.memory.as_slice(), i)
-    }
-
-    /// All data words, from address 0 on.
-    pub fn memory(&self) -> &[u32]
-        ensures { result.now ≡ self.now.memory }
-    {
-        self.run.store.memory.as_slice()
-    }
-
-    /// All frame words, from address 0 on.
-    pub fn frame(&self) -> &[u32]
-        ensures { result.now ≡ self.now.frame }
-    {
-        self.run.store.frame.as_slice()
-    }
-
-    /// The address of the next instruction.
-    pub fn pc(&self) -> u32
-        ensures { result ≡ self.now.pc }
-    {
-        self.run.control.pc
-    }
-
-    /// How many cycles were made.
-    pub fn cycles(&self) -> u64
-        ensures { result ≡ self.now.cycle }
-    {
-        self.run.store.cycle
-    }
-
-    /// Whether the run has halted.
-    pub fn halted(&self) -> bool
-        ensures { result ≡ is_halted self.now.outcome }
-    {
-        match self.run.control.phase {
-            Phase::Halted => true,
-            Phase::Running | Phase::Fault(_) => false,
-        }
-    }
-
-    /// The number of the fault that the run is at, `None` where it is at none.
-    pub fn fault(&self) -> Option<u8>
-        ensures { result ≡ fault_number self.now.outcome }
-    {
-        match self.run.control.phase {
-            Phase::Fault(number) => Some(number),
-            Phase::Running | Phase::Halted => None,
-        }
-    }
-
-    /// How the run stands.
-    pub fn ending(&self) -> Ending
-        ensures { as_outcome result ≡ self.now.outcome }
-    {
-        match self.run.control.phase {
-            Phase::Running => Ending::Running,
-            Phase::Halted => Ending::Halted,
-            Phase::Fault(number) => Ending::Fault {
-                number,
-                cycle: self.run.store.cycle,
-            },
-        }
     }
 }

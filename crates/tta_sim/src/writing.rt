@@ -1,9 +1,10 @@
 //! What a cycle writes into registers and operand ports.
 
-ghost use Rattle.std.specs.Prelude.{◌≡◌, ◌<◌, ◌++◌};
+ghost use Rattle.std.specs.Prelude.{◌≡◌, ◌<◌, ◌++◌, None, slice_index_or};
 ghost use Rattle.std.specs.List.{AllByRecursion};
 ghost use Rattle.tta_arch.specs.Effects.{Written};
 ghost use Rattle.tta_sim.specs.Places.{HasWritten};
+ghost use Rattle.tta_sim.specs.Known.{Grows};
 ghost use Rattle.tta_sim.specs.Writing.{numbered, ArePlaces};
 
 use crate::lines::Write;
@@ -13,8 +14,10 @@ use crate::places::Places;
 #[inline(always)]
 pub fn write_all(places: &mut Places, writes: &[Write])
     requires { AllByRecursion (λ w. w.place < 609) writes.now }
-    ensures { (new old : Written) → writes.now ≡ numbered new → ArePlaces new
+    ensures written { (new old : Written) → writes.now ≡ numbered new → ArePlaces new
         → HasWritten places.old old → HasWritten places.new (new ++ old) }
+    ensures grows { Grows (λ k. slice_index_or places.old k None)
+        (λ k. slice_index_or places.new k None) }
 {
     let mut i = writes.len();
     while i > 0 {

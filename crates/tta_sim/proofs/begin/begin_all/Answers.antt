@@ -2,6 +2,7 @@ use Rattle.std.proofs.Common.{◌≤◌, length, map, refl, subst, arith}
 use Rattle.tta_sim.specs.Results.{results_at}
 use Rattle.tta_sim.specs.Dues.{started_at}
 use Rattle.tta_sim.proofs.Beginning.{AreBegun, none_begun, can_next, begun_next, all_begun, others_begun, take_past}
+use Rattle.tta_sim.proofs.Growing.{begun_grows}
 use Rattle.tta_sim.proofs.begin.begin_all.Goals as goal
 
 pub loop-due-init : goal.loop-due-init
@@ -27,3 +28,6 @@ returns-clause-begun c = λ now.
 
 pub returns-clause-others : goal.returns-clause-others
 returns-clause-others c = others_begun 0 c.args.part c.args.region.now _ c.loop-due.region (c.loop-due.invariant 0)
+
+pub returns-clause-ports : goal.returns-clause-ports
+returns-clause-ports c = begun_grows 0 (results_at c.args.part c.args.region.now) _ c.loop-due.region (c.loop-due.invariant 0)

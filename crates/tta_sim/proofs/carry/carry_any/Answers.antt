@@ -1,5 +1,5 @@
 use Rattle.std.proofs.Common.{◌+◌, ◌<◌, ℕ, length, map, refl, sym, ap, ◌∙◌, subst, arith, append_assoc}
-use Rattle.std.specs.Prelude.{◌&&◌, is_some, is_none, option_map, fold}
+use Rattle.std.specs.Prelude.{◌&&◌, None, is_some, is_none, option_map, fold, slice_index_or}
 use Rattle.std.specs.List.{find, list_any, filter_map, AllByRecursion}
 use Rattle.tta_sim.specs.Cited.{stated, write_of, first_some, store_data, store_frame, takes}
 use Rattle.tta_sim.specs.Places.{HasWritten}
@@ -16,6 +16,7 @@ use Rattle.tta_sim.proofs.Facing.{placed, acting_same}
 use Rattle.tta_sim.proofs.Cycles.{faulted}
 use Rattle.tta_sim.proofs.Leaving.{arrivals, starts, is_left, left_can, left_few, written_within}
 use Rattle.tta_sim.proofs.Shown.{dues_begun}
+use Rattle.tta_sim.proofs.Growing.{words_same}
 use Rattle.tta_sim.proofs.Owning.{others_same}
 use Rattle.tta_sim.proofs.Acting.{carried_wait, carried_at}
 use Rattle.tta_sim.proofs.Writes.{length-stored, length-stored_frame}
@@ -90,6 +91,7 @@ returns-then-is_stuck g c = record {
   waits = λ lines is. refl;
   stays = λ is. refl;
   others = others_same c.args.context.now.part c.args.region.now;
+  words = words_same c.args.run.now.store.places (results_at c.args.context.now.part c.args.region.now);
 }
 
 -- ---- a cycle that is carried out
@@ -136,4 +138,8 @@ returns g c = record {
   waits = λ lines is. cc;
   stays = λ is. cc;
   others = c.begin_all.ensures.others;
+  words = record {
+    places = λ k some. c.go_on.ensures.grows k (ap (λ ps. is_some (slice_index_or ps k None)) c.put_all-put.ensures.places ∙ some);
+    ports = c.begin_all.ensures.ports;
+  };
 }

@@ -86,4 +86,5 @@ returns-clause-cycle g c = λ next. record {
   waits = λ lines is. cc;
   stays = λ is. cc;
   others = c.begin_all.ensures.others;
+  words = record { places = c.go_on.ensures.grows; ports = c.begin_all.ensures.ports };
 }

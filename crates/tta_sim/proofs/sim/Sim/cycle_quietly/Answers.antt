@@ -1,5 +1,7 @@
 use Rattle.std.proofs.Common.{sym, ◌∙◌, subst}
 use Rattle.tta_sim.specs.Held.{Stands, IsRunOf}
+use Rattle.tta_sim.specs.Known.{all_shown, AreMarked}
+use Rattle.tta_sim.proofs.Marking.{marked_grows}
 use Rattle.tta_sim.proofs.Owning.{own_run, own_stands, state_stands, state_run, units_still}
 use Rattle.tta_sim.proofs.sim.Sim.cycle_quietly.Goals as goal
 
@@ -29,3 +31,11 @@ returns-clause-next g c = λ s same.
       output = quiet.output;
       rest = quiet.rest;
     }
+
+pub invariant_of-self : goal.invariant_of-self
+invariant_of-self g c =
+    let run = subst (IsRunOf c.args.m.now c.args.code.now) (sym c.self.view_is) c.requires.loaded in
+    let lines = c.cycle_quietly.ensures.loaded.decoded ∙ sym run.decoded in
+    subst (λ ls. AreMarked c.cycle_quietly.new.self.places (all_shown c.cycle_quietly.new.region) ls c.self.inside.marks.items) (sym lines)
+    (marked_grows c.self.inside.state.places c.cycle_quietly.new.self.places (all_shown c.self.inside.region) (all_shown c.cycle_quietly.new.region) c.cycle_quietly.ensures.words.places c.cycle_quietly.ensures.words.ports
+    c.self.inside.state.lines c.self.inside.marks.items c.self.invariant)

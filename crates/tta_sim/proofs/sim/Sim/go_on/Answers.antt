@@ -10,12 +10,12 @@ cycles-preserved g c =
     let step = next U c.args.m.now c.args.code.now in
     let made = c.cycles.made in
     let is : suc made ≡ made + 1 = omega arith in
-    let did = c.if-not-cycle_quietly.ensures in
+    let did = c.if-not-cycle_silently.ensures in
     record {
       loaded = did.loaded;
       within = omega (arith, c.cycles-test.true);
       counted = omega (arith, did.counted, c.cycles.invariant.counted);
-      next = λ s same. subst (λ n. IsQuiet (Stands c.cycle_quietly.new.self) s (iterate n step s)) is
-          (quiet_more (Stands c.cycles.self) (Stands c.cycle_quietly.new.self) s (iterate made step s) (iterate (suc made) step s)
+      next = λ s same. subst (λ n. IsQuiet (Stands c.cycle_silently.new.self) s (iterate n step s)) is
+          (quiet_more (Stands c.cycles.self) (Stands c.cycle_silently.new.self) s (iterate made step s) (iterate (suc made) step s)
           (c.cycles.invariant.next s same) (did.next (iterate made step s)));
     }

@@ -1,5 +1,8 @@
+use Rattle.std.proofs.Common.{map, sym, ap, ◌∙◌, subst}
 use Rattle.tta_sim.specs.Cited.{start}
 use Rattle.tta_sim.specs.Results.{units_of}
+use Rattle.tta_sim.specs.Known.{mark_of, all_shown, AreMarked}
+use Rattle.tta_sim.proofs.Marking.{first_marked}
 use Rattle.tta_sim.proofs.Owning.{own_run, own_stands}
 use Rattle.tta_sim.proofs.sim.Sim.load.Goals as goal
 
@@ -11,3 +14,9 @@ returns-clause-start c = λ input.
 pub returns-clause-loaded : goal.returns-clause-loaded
 returns-clause-loaded c =
     own_run c.args.m.now c.args.code.now c.in_ok-state.state c.in_ok-region.region c.in_ok-region.ensures.units c.in_ok-state.ensures.loaded c.in_ok-region.ensures.has_units
+
+pub invariant_of-result : goal.invariant_of-result
+invariant_of-result c =
+    let state = c.in_ok-state.state in
+    let lines = c.in_ok-marks.ensures ∙ ap (map mark_of) c.lines.ensures in
+    subst (AreMarked state.places (all_shown c.in_ok-region.region) state.lines) (sym lines) (first_marked state.places (all_shown c.in_ok-region.region) state.lines)

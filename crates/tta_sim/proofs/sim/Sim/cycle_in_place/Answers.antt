@@ -1,0 +1,38 @@
+use Rattle.std.proofs.Common.{sym, ap, ◌∙◌, subst}
+use Rattle.tta_sim.specs.Held.{Stands, IsRunOf, held_with}
+use Rattle.tta_sim.proofs.Owning.{own_run, own_stands, state_stands, state_run, units_still}
+use Rattle.tta_sim.proofs.sim.Sim.cycle_in_place.Goals as goal
+
+pub cycle_in_place-requires-clause-loaded : goal.cycle_in_place-requires-clause-loaded
+cycle_in_place-requires-clause-loaded g c =
+    let run = subst (IsRunOf c.args.m.now c.args.code.now) (sym c.self.view_is) c.requires.loaded in
+    state_run c.args.m.now c.args.code.now c.self.inside.state c.self.inside.region run
+
+pub cycle_in_place-requires-clause-has_units : goal.cycle_in_place-requires-clause-has_units
+cycle_in_place-requires-clause-has_units g c = (subst (IsRunOf c.args.m.now c.args.code.now) (sym c.self.view_is) c.requires.loaded).has_units
+
+pub returns-clause-loaded : goal.returns-clause-loaded
+returns-clause-loaded g c =
+    let run = subst (IsRunOf c.args.m.now c.args.code.now) (sym c.self.view_is) c.requires.loaded in
+    own_run c.args.m.now c.args.code.now c.cycle_in_place.new.self c.cycle_in_place.new.region (c.cycle_in_place.ensures.kept.units ∙ run.units) c.cycle_in_place.ensures.loaded
+    (units_still 0 c.args.m.now c.self.inside.region c.cycle_in_place.new.region run.has_units c.cycle_in_place.ensures.kept)
+
+pub returns-clause-next : goal.returns-clause-next
+returns-clause-next g c = λ s same.
+    let m = c.args.m.now in
+    let code = c.args.code.now in
+    let run = subst (IsRunOf m code) (sym c.self.view_is) c.requires.loaded in
+    let held = state_stands m code c.self.inside.state c.self.inside.region run.units s (subst (λ h. Stands h s) (sym c.self.view_is) same) in
+    let quiet = c.cycle_in_place.ensures.next s held in
+    record {
+      stands = own_stands m code c.cycle_in_place.new.self c.cycle_in_place.new.region (c.cycle_in_place.ensures.kept.units ∙ run.units) _ quiet.stands;
+      output = quiet.output;
+      rest = quiet.rest;
+    }
+
+pub cycle_in_place-requires-clause-own : goal.cycle_in_place-requires-clause-own
+cycle_in_place-requires-clause-own g c = (subst (IsRunOf c.args.m.now c.args.code.now) (sym c.self.view_is) c.requires.loaded).units
+
+pub returns-clause-stays : goal.returns-clause-stays
+returns-clause-stays g c = λ is.
+    ap (λ h. held_with h c.cycle_in_place.new.region) (c.cycle_in_place.ensures.waits is) ∙ ap (held_with c.self.inside.state) (c.cycle_in_place.ensures.stays is) ∙ c.self.view_is

@@ -1,0 +1,244 @@
+//! Lines that are carried out move by move, each on what those before it left.
+
+ghost use Rattle.std.specs.Prelude.{◌≡◌, ◌<◌, ◌||◌, [], ◌∷◌, ℕ, Option, None, true, false, not};
+ghost use Rattle.std.specs.Prelude.{fold, length, map, is_some, option_to_list, IsTrue};
+ghost use Rattle.std.specs.List.{filter_map, list_any, AllByRecursion};
+ghost use Rattle.tta_ops.specs.Set.{stated};
+ghost use Rattle.tta_arch.specs.Effects.{store_data, store_frame};
+ghost use Rattle.tta_arch.specs.Rules.{are_different, is_stream_op};
+ghost use Rattle.tta_flight.specs.Rings.{HaveCome};
+ghost use Rattle.tta_sim.specs.declared.cycle_step.CycleStep.TheVariants.{Ran};
+ghost use Rattle.tta_sim.specs.Decoded.{is_nil};
+ghost use Rattle.tta_sim.specs.Results.{results_at, shown_by, AreThere};
+ghost use Rattle.tta_sim.specs.Starts.{clashes_at, clashes_with};
+ghost use Rattle.tta_sim.specs.Ready.{FitsLine};
+ghost use Rattle.tta_sim.specs.Kept.{kept_as, IsAtLine, IsCycle};
+ghost use Rattle.tta_sim.specs.Lines.{is_write_there, is_start_there, write_brought};
+ghost use Rattle.tta_sim.specs.Lines.{IsLineThere};
+ghost use Rattle.tta_sim.specs.Dues.{shown_from, started_at, CanAllBegin};
+ghost use Rattle.tta_sim.specs.Order.{is_touched, is_barred, is_in_order};
+ghost use Rattle.tta_sim.specs.Known.{is_known, is_settled};
+ghost use Rattle.tta_sim.specs.InPlace.{starts_of_line, begun_here, dues_in, delay_now};
+ghost use Rattle.tta_sim.specs.InPlace.{IsWhole, AreWritten, CanStart, StartsNow, AreStarted};
+
+use crate::control::Control;
+use crate::control_moves::acting_in;
+use crate::decoded::{DecodedStart, DecodedWrite, Line};
+use crate::dues::{Due, result_of};
+use crate::known::read_known;
+use crate::lines::start_of;
+use crate::places::Places;
+use crate::results::{Part, Results};
+use crate::run::{Context, Run};
+use crate::spaces::store_one;
+use crate::starts::clashes;
+use crate::store::Store;
+use tta_flight::Region;
+use tta_ops::UnitSet;
+
+/// Writes the word of a move, if it acts.
+#[inline(always)]
+fn write_one(places: &mut Places, results: &Results<'_>, w: &DecodedWrite)
+    requires there { IsTrue (is_write_there results.now.units w.now) }
+    requires known { is_known places.old (shown_by results.now) w.now.reading ≡ true }
+    ensures { let brought = write_brought places.old (shown_by results.now) in
+        AreWritten places.old (option_to_list (brought w.now)) places.new }
+{
+    if let Some(word) = read_known(places, results, &w.reading) {
+        let word = if w.narrow { word % 2 } else { word };
+        places.set(w.place as usize, word);
+    }
+}
+
+/// Writes the words of the moves that act, one after another.
+#[inline(always)]
+pub fn write_in_place(places: &mut Places, results: &Results<'_>, moves: &[DecodedWrite])
+    requires there { AllByRecursion
+        (λ w. IsTrue (is_write_there results.now.units w)) moves.now }
+    requires known { let known = is_known places.old (shown_by results.now) in
+        AllByRecursion (λ w. IsTrue (known w.reading)) moves.now }
+    requires order { are_different is_touched moves.now ≡ true }
+    ensures { let brought = write_brought places.old (shown_by results.now) in
+        AreWritten places.old (filter_map brought moves.now) places.new }
+{
+    for w in moves {
+        write_one(places, results, w);
+    }
+}
+
+/// How long from this moment on a result of an operation is kept back: it shows at once if it does in
+/// the next cycle.
+#[inline(always)]
+fn delay_now(latency: u8) -> u8
+    ensures { result ≡ delay_now latency }
+{
+    if latency == 1 { 0 } else { latency }
+}
+
+/// Starts a result, where the machine's first unit is `base`.
+#[inline(always)]
+fn show(region: &mut Region, base: u8, due: &Due)
+    requires { CanStart base region.old due.now }
+    ensures { StartsNow base (due.now ∷ []) region.old region.new }
+{
+    region.start(base + due.unit, delay_now(due.latency), due.value);
+}
+
+/// Starts the operation of a move, if it acts: it stores its word, or starts its result.
+#[inline(always)]
+fn start_one(store: &mut Store, region: &mut Region, part: Part, units: &UnitSet, s: &DecodedStart)
+    requires are { AreThere (results_at part region.old) }
+    requires there { IsTrue (is_start_there part.count s.now) }
+    requires known { let r = results_at part region.old in
+        is_known store.old.places (shown_by r) s.now.reading ≡ true }
+    requires can { let U = stated unit_meaning units.now in
+        let begun = begun_here store.old (results_at part region.old) in
+        AllByRecursion (CanStart part.base region.old)
+        (filter_map (shown_from U 0 store.old) (option_to_list (begun s.now))) }
+    ensures places { store.new.places ≡ store.old.places }
+    ensures cycle { store.new.cycle ≡ store.old.cycle }
+    ensures data { let begun = begun_here store.old (results_at part region.old) in
+        store.new.memory.items
+        ≡ fold store_data store.old.memory.items (option_to_list (begun s.now)) }
+    ensures frame { let begun = begun_here store.old (results_at part region.old) in
+        store.new.frame.items
+        ≡ fold store_frame store.old.frame.items (option_to_list (begun s.now)) }
+    ensures started { let U = stated unit_meaning units.now in
+        let begun = begun_here store.old (results_at part region.old) in
+        StartsNow part.base (filter_map (shown_from U 0 store.old) (option_to_list (begun s.now)))
+        region.old region.new }
+{
+    let read = read_known(&store.places, &Results::of(region, part), &s.reading);
+    if let Some(word) = read {
+        let start = start_of(&[], &store.places, s, word);
+        let memory = store.memory.as_slice();
+        match result_of(units, memory, store.frame.as_slice(), 0, &start) {
+            Some(value) => show(
+                region,
+                part.base,
+                &Due {
+                    unit: s.unit,
+                    latency: s.does.latency,
+                    value,
+                },
+            ),
+            None => store_one(&mut store.memory, &mut store.frame, &start),
+        }
+    }
+}
+
+/// Starts the operations of the moves that act, one after another. What was due at this moment is over
+/// then.
+#[inline(always)]
+pub fn start_in_place(
+    store: &mut Store,
+    region: &mut Region,
+    part: Part,
+    units: &UnitSet,
+    moves: &[DecodedStart],
+)
+    requires are { AreThere (results_at part region.old) }
+    requires there { AllByRecursion (λ s. IsTrue (is_start_there part.count s)) moves.now }
+    requires known { let known = is_known store.old.places (shown_by (results_at part region.old)) in
+        AllByRecursion (λ s. IsTrue (known s.reading)) moves.now }
+    requires order { are_different is_barred moves.now ≡ true }
+    requires can { let U = stated unit_meaning units.now in
+        let r = results_at part region.old in
+        CanAllBegin r (dues_in U store.old r moves.now) }
+    ensures places { store.new.places ≡ store.old.places }
+    ensures cycle { store.new.cycle ≡ store.old.cycle }
+    ensures data { let begun = begun_here store.old (results_at part region.old) in
+        store.new.memory.items
+        ≡ fold store_data store.old.memory.items (filter_map begun moves.now) }
+    ensures frame { let begun = begun_here store.old (results_at part region.old) in
+        store.new.frame.items
+        ≡ fold store_frame store.old.frame.items (filter_map begun moves.now) }
+    ensures started { (now : ℕ) → let U = stated unit_meaning units.now in
+        let r = results_at part region.old in
+        AreStarted now r (map (started_at now) (dues_in U store.old r moves.now)) region.new }
+{
+    region.pass_all();
+    for s in moves {
+        start_one(store, region, part, units, s);
+    }
+}
+
+/// Goes to the next cycle of all units of a region, but for what is due at this moment.
+#[inline(always)]
+fn come_on(region: &mut Region)
+    requires { length region.old.rings < 64 }
+    ensures { HaveCome (length region.old.rings) region.old region.new }
+{
+    if !region.is_still() {
+        region.come_all();
+    }
+}
+
+/// Whether a result of one of these would be due at the time of another, if they all act.
+#[inline(always)]
+fn any_clash(results: &Results<'_>, starts: &[DecodedStart]) -> bool
+    requires { AllByRecursion (λ s. IsTrue (is_start_there results.now.units s)) starts.now }
+    ensures { result ≡ list_any (λ s. clashes_at results.now s.unit s.does) starts.now }
+{
+    for s in starts {
+        if clashes(results, s.unit, &s.does) {
+            return true;
+        }
+    }
+    false
+}
+
+/// Whether a line that takes words which are all set has no fault, as far as can be seen before it is
+/// carried out. It may say no where there is none.
+#[inline(always)]
+pub fn is_free(store: &Store, region: &Region, part: Part, control: &Control, line: &Line) -> bool
+    requires are { AreThere (results_at part region.now) }
+    requires few { length region.now.rings < 64 }
+    requires there { IsLineThere part.count line.now }
+    requires fits { FitsLine store.now (results_at part region.now) line.now }
+    ensures free { result ≡ true → let r = results_at part region.now in
+        list_any (clashes_with r) (starts_of_line store.now r line.now) ≡ false }
+    ensures controls { result ≡ true
+        → (is_nil line.now.controls || not (is_some control.now.pending)) ≡ true }
+{
+    if !line.controls.is_empty() && control.pending.is_some() {
+        return false;
+    }
+    if region.is_still() {
+        return true;
+    }
+    !any_clash(&Results::of(region, part), line.starts.as_slice())
+}
+
+/// Carries out a cycle with a line in order, all of whose words are set, move by move.
+#[inline(always)]
+pub fn carry_in_place(run: &mut Run, region: &mut Region, context: &Context<'_>, line: &Line)
+    requires ready { let old = kept_as run.old.store run.old.control region.old in
+        IsAtLine context.now.part line.now old }
+    requires own { IsWhole context.now.part region.old }
+    requires order { is_in_order line.now ≡ true }
+    requires settled { let r = results_at context.now.part region.old in
+        is_settled run.old.store.places (shown_by r) line.now ≡ true }
+    requires free { let r = results_at context.now.part region.old in
+        list_any (clashes_with r) (starts_of_line run.old.store r line.now) ≡ false }
+    requires controls { (is_nil line.now.controls || not (is_some run.old.control.pending)) ≡ true }
+    ensures { (next : Option ℕ) → let U = stated unit_meaning context.now.units.now in
+        let old = kept_as run.old.store run.old.control region.old in
+        let new = kept_as run.new.store run.new.control region.new in
+        IsCycle U context.now.part context.now.delay line.now next old new (Ran None false) }
+{
+    let part = context.part;
+    let results = Results::of(region, part);
+    write_in_place(&mut run.store.places, &results, line.writes.as_slice());
+    start_in_place(
+        &mut run.store,
+        region,
+        part,
+        context.units,
+        line.starts.as_slice(),
+    );
+    let acting = acting_in(&run.store.places, &Results::of(region, part), line);
+    come_on(region);
+    run.store.cycle += 1;
+    run.control.advance(acting, run.store.cycle, context.delay);
+}

@@ -1,0 +1,73 @@
+//! What is known of a line.
+
+ghost use Rattle.std.specs.Prelude.{◌≡◌, true, map, IfOk};
+ghost use Rattle.tta_sim.specs.Results.{shown_by};
+ghost use Rattle.tta_sim.specs.Lines.{IsLineThere};
+ghost use Rattle.tta_sim.specs.Order.{is_in_order};
+ghost use Rattle.tta_sim.specs.Known.{is_settled, mark_of, IsMarked};
+
+use crate::decoded::Line;
+use crate::known::is_settled;
+use crate::order::is_in_order;
+use crate::places::Places;
+use crate::results::Results;
+use std::alloc::{AllocError, Global};
+
+/// What is known of a line that is to be carried out in place.
+#[derive(Clone, Copy, Debug)]
+pub enum Mark {
+    /// Its moves cannot be carried out one after another.
+    Apart,
+    /// They can.
+    Ordered,
+    /// They can, and all words that they take are set.
+    Settled,
+}
+
+impl Mark {
+    /// The mark of a line at the begin of a run.
+    fn of(line: &Line) -> Mark
+        ensures { result ≡ mark_of line.now }
+    {
+        if is_in_order(line) {
+            Mark::Ordered
+        } else {
+            Mark::Apart
+        }
+    }
+
+    /// Whether a line can be carried out in place and all words that it takes are set, which is noted
+    /// once it is so.
+    #[inline(always)]
+    pub fn settle(&mut self, places: &Places, results: &Results<'_>, line: &Line) -> bool
+        requires there { IsLineThere results.now.units line.now }
+        requires marked { IsMarked places.now (shown_by results.now) line.now self.old }
+        ensures marked { IsMarked places.now (shown_by results.now) line.now self.new }
+        ensures order { result ≡ true → is_in_order line.now ≡ true }
+        ensures settled { result ≡ true
+            → is_settled places.now (shown_by results.now) line.now ≡ true }
+    {
+        match *self {
+            Mark::Settled => true,
+            Mark::Apart => false,
+            Mark::Ordered => {
+                if !is_settled(places, results.reborrow(), line) {
+                    return false;
+                }
+                *self = Mark::Settled;
+                true
+            }
+        }
+    }
+}
+
+/// The marks of lines at the begin of a run.
+pub fn marks_of(alloc: Global, lines: &[Line]) -> Result<Vec<Mark>, AllocError>
+    ensures { IfOk result (λ v. v.items ≡ map mark_of lines.now) }
+{
+    let mut marks = Vec::new(alloc);
+    for line in lines {
+        marks.push(Mark::of(line))?;
+    }
+    Ok(marks)
+}

@@ -1,0 +1,87 @@
+//! Cycles of lines that are carried out in place.
+
+ghost use Rattle.std.specs.Prelude.{◌≡◌, ◌+◌, ◌<◌, ◌≤◌, ◌^◌, length, true, false, if◌then◌else◌};
+ghost use Rattle.tta_ops.specs.Set.{stated};
+ghost use Rattle.tta_code.specs.Cycle.{State, next as next_state};
+ghost use Rattle.tta_sim.specs.Results.{AreKept, HasUnits, units_of};
+ghost use Rattle.tta_sim.specs.Held.{StandsWith, IsQuiet, IsStateOf};
+ghost use Rattle.tta_sim.specs.Known.{all_shown, AreMarked};
+
+use crate::control::Phase;
+use crate::decoded::Line;
+use crate::in_place::{carry_in_place, is_free};
+use crate::mark::Mark;
+use crate::results::Results;
+use crate::run::Context;
+use crate::state::{SimState, part_of};
+use tta_arch::Machine;
+use tta_code::Code;
+use tta_flight::Region;
+use tta_ops::UnitSet;
+
+impl SimState {
+    /// The code that is run, decoded.
+    pub(crate) fn lines(&self) -> &[Line]
+        ensures { result.now ≡ self.now.lines }
+    {
+        self.lines.as_slice()
+    }
+
+    /// Carries out one cycle of the code that was loaded in place, if the run goes on, the line is in
+    /// order, all words that it takes are set, and no fault can come. It answers whether it did; else
+    /// all stays. The region has the machine's units alone, and the marks say what is known of lines.
+    #[inline(always)]
+    pub(crate) fn cycle_in_place(
+        &mut self,
+        region: &mut Region,
+        marks: &mut Vec<Mark>,
+        m: &Machine,
+        code: &Code,
+        units: &UnitSet,
+    ) -> bool
+        requires loaded { IsStateOf m.now code.now self.old }
+        requires has_units { HasUnits 0 m.now region.old }
+        requires own { length region.old.rings ≡ length m.now.units }
+        requires few { self.old.cycle < 2 ^ 62 }
+        requires marked { AreMarked self.old.places (all_shown region.old) self.old.lines
+            marks.old.items }
+        ensures loaded { IsStateOf m.now code.now self.new }
+        ensures kept { AreKept region.old region.new }
+        ensures marked { AreMarked self.new.places (all_shown region.new) self.new.lines
+            marks.new.items }
+        ensures waits { result ≡ false → self.new ≡ self.old }
+        ensures stays { result ≡ false → region.new ≡ region.old }
+        ensures counted { self.new.cycle ≤ self.old.cycle + (if result then 1 else 0) }
+        ensures next { let U = stated unit_meaning units.now in (s : State)
+            → StandsWith (units_of 0 m.now region.old) self.old s
+            → IsQuiet (StandsWith (units_of 0 m.now region.new) self.new) s
+            (if result then next_state U m.now code.now s else s) }
+    {
+        // So that it is known here that the machine's rules hold.
+        m.rules();
+        match self.run.control.phase {
+            Phase::Running => {}
+            Phase::Halted | Phase::Fault(_) => return false,
+        }
+        let pc = self.run.control.pc as usize;
+        if pc >= code.words.len() {
+            return false;
+        }
+        let line = &self.lines.as_slice()[pc];
+        let context = Context {
+            part: part_of(0, m),
+            delay: m.control.delay,
+            units,
+        };
+        let store = &self.run.store;
+        let results = Results::of(region, context.part);
+        if !marks[pc].settle(&store.places, &results, line) {
+            return false;
+        }
+        if !is_free(store, region, context.part, &self.run.control, line) {
+            return false;
+        }
+        carry_in_place(&mut self.run, region, &context, line);
+        true
+    }
+}
