@@ -38,6 +38,7 @@ fn any_unset(places: &Places, results: &Results<'_>, moves: &[DecodedControl]) -
 }
 
 /// A control move with its word, if it acts.
+#[inline(always)]
 fn acting_move(places: &Places, results: &Results<'_>, t: &DecodedControl) -> Option<ControlMove>
     requires { IsTrue (is_control_there results.now.units t.now) }
     ensures { let brought = control_brought places.now (shown_by results.now) in
@@ -50,6 +51,7 @@ fn acting_move(places: &Places, results: &Results<'_>, t: &DecodedControl) -> Op
 }
 
 /// The first of the control moves that acts, if any does.
+#[inline(always)]
 fn acting_by(
     places: &Places,
     results: &Results<'_>,

@@ -3,7 +3,7 @@
 ghost use Rattle.std.specs.Prelude.{◌≡◌, true, is_some, nat_lt, IsTrue};
 ghost use Rattle.std.specs.Option.{option_map_or, unwrap_or};
 ghost use Rattle.std.specs.List.{list_all, AllByRecursion};
-ghost use Rattle.tta_sim.specs.Results.{shown_by};
+ghost use Rattle.tta_sim.specs.Results.{results_at, shown_by, AreThere};
 ghost use Rattle.tta_sim.specs.Lines.{source_word, word_read};
 ghost use Rattle.tta_sim.specs.Lines.{is_source_there, is_reading_there, is_write_there};
 ghost use Rattle.tta_sim.specs.Lines.{is_start_there, is_control_there, IsLineThere};
@@ -11,12 +11,14 @@ ghost use Rattle.tta_sim.specs.Known.{is_guard_known, is_guard_let, is_known};
 ghost use Rattle.tta_sim.specs.Known.{is_start_known, is_settled};
 
 use crate::decoded::{
-    DecodedControl, DecodedGuard, DecodedSource, DecodedStart, DecodedWrite, Line, Reading,
+    DecodedControl, DecodedSource, DecodedStart, DecodedWrite, Line, Reading,
 };
 use crate::places::Places;
-use crate::results::Results;
+use crate::results::{Part, Results};
+use tta_flight::Region;
 
 /// Whether a source has a word.
+#[inline(always)]
 fn is_source_known(places: &Places, results: &Results<'_>, src: DecodedSource) -> bool
     requires { IsTrue (is_source_there results.now.units src) }
     ensures { result ≡ is_some (source_word places.now (shown_by results.now) src) }
@@ -29,6 +31,7 @@ fn is_source_known(places: &Places, results: &Results<'_>, src: DecodedSource) -
 }
 
 /// Whether the guard of a move, if it has one, and its source have words.
+#[inline(always)]
 fn is_known(places: &Places, results: &Results<'_>, r: &Reading) -> bool
     requires { IsTrue (is_reading_there results.now.units r.now) }
     ensures { result ≡ is_known places.now (shown_by results.now) r.now }
@@ -42,6 +45,7 @@ fn is_known(places: &Places, results: &Results<'_>, r: &Reading) -> bool
 }
 
 /// Whether that is so of all these writes.
+#[inline(always)]
 fn are_writes_known(places: &Places, results: &Results<'_>, moves: &[DecodedWrite]) -> bool
     requires { AllByRecursion (λ w. IsTrue (is_write_there results.now.units w)) moves.now }
     ensures { let known = is_known places.now (shown_by results.now) in
@@ -56,6 +60,7 @@ fn are_writes_known(places: &Places, results: &Results<'_>, moves: &[DecodedWrit
 }
 
 /// Whether that is so of a start, and its operand port has a word, if it takes one.
+#[inline(always)]
 fn is_start_known(places: &Places, results: &Results<'_>, s: &DecodedStart) -> bool
     requires { IsTrue (is_start_there results.now.units s.now) }
     ensures { result ≡ is_start_known places.now (shown_by results.now) s.now }
@@ -64,6 +69,7 @@ fn is_start_known(places: &Places, results: &Results<'_>, s: &DecodedStart) -> b
 }
 
 /// Whether that is so of all these starts.
+#[inline(always)]
 fn are_starts_known(places: &Places, results: &Results<'_>, moves: &[DecodedStart]) -> bool
     requires { AllByRecursion (λ s. IsTrue (is_start_there results.now.units s)) moves.now }
     ensures { result ≡ list_all (is_start_known places.now (shown_by results.now)) moves.now }
@@ -77,6 +83,7 @@ fn are_starts_known(places: &Places, results: &Results<'_>, moves: &[DecodedStar
 }
 
 /// Whether the guards and the sources of all these control moves have words.
+#[inline(always)]
 fn are_controls_known(places: &Places, results: &Results<'_>, moves: &[DecodedControl]) -> bool
     requires { AllByRecursion (λ t. IsTrue (is_control_there results.now.units t)) moves.now }
     ensures { let known = is_known places.now (shown_by results.now) in
@@ -93,22 +100,24 @@ fn are_controls_known(places: &Places, results: &Results<'_>, moves: &[DecodedCo
 /// Whether all that the moves of a line take is set. It is not in line, since it is asked for once
 /// for each line.
 #[inline(never)]
-pub fn is_settled(places: &Places, results: Results<'_>, line: &Line) -> bool
-    requires { IsLineThere results.units line.now }
-    ensures { result ≡ is_settled places.now (shown_by results.entry) line.now }
+pub fn is_settled(places: &Places, region: &Region, part: Part, line: &Line) -> bool
+    requires are { AreThere (results_at part region.now) }
+    requires there { IsLineThere part.count line.now }
+    ensures { result ≡ is_settled places.now (shown_by (results_at part region.now)) line.now }
 {
+    let results = Results::of(region, part);
     are_writes_known(places, &results, line.writes.as_slice())
         && are_starts_known(places, &results, line.starts.as_slice())
         && are_controls_known(places, &results, line.controls.as_slice())
 }
 
-/// The word of a source that has one.
+/// The word of a move's source, which has one.
 #[inline(always)]
-fn word_known(places: &Places, results: &Results<'_>, src: DecodedSource) -> u32
-    requires { IsTrue (is_source_there results.now.units src) }
-    ensures { result ≡ unwrap_or (source_word places.now (shown_by results.now) src) 0 }
+fn word_known(places: &Places, results: &Results<'_>, r: &Reading) -> u32
+    requires { IsTrue (is_source_there results.now.units r.now.src) }
+    ensures { result ≡ unwrap_or (source_word places.now (shown_by results.now) r.now.src) 0 }
 {
-    match src {
+    match r.src {
         DecodedSource::Word(word) => word,
         DecodedSource::Place(number) => places.at(number).unwrap_or(0),
         DecodedSource::Port(unit) => results.port(unit).unwrap_or(0),
@@ -117,12 +126,12 @@ fn word_known(places: &Places, results: &Results<'_>, src: DecodedSource) -> u32
 
 /// Whether a move acts whose guard has a word, if it has one.
 #[inline(always)]
-fn is_let(places: &Places, guard: Option<DecodedGuard>) -> bool
-    requires there { option_map_or (λ g. nat_lt g.place 609) guard true ≡ true }
-    requires known { is_guard_known places.now guard ≡ true }
-    ensures { result ≡ is_guard_let places.now guard }
+fn is_let(places: &Places, r: &Reading) -> bool
+    requires there { option_map_or (λ g. nat_lt g.place 609) r.now.guard true ≡ true }
+    requires known { is_guard_known places.now r.now.guard ≡ true }
+    ensures { result ≡ is_guard_let places.now r.now.guard }
 {
-    match guard {
+    match r.guard {
         None => true,
         Some(g) => (places.at(g.place).unwrap_or(0) == 0) == g.inverted,
     }
@@ -135,8 +144,8 @@ pub fn read_known(places: &Places, results: &Results<'_>, r: &Reading) -> Option
     requires known { is_known places.now (shown_by results.now) r.now ≡ true }
     ensures { result ≡ word_read places.now (shown_by results.now) r.now }
 {
-    if !is_let(places, r.guard) {
+    if !is_let(places, r) {
         return None;
     }
-    Some(word_known(places, results, r.src))
+    Some(word_known(places, results, r))
 }

@@ -1,7 +1,7 @@
 //! What is known of a line.
 
 ghost use Rattle.std.specs.Prelude.{◌≡◌, true, map, IfOk};
-ghost use Rattle.tta_sim.specs.Results.{shown_by};
+ghost use Rattle.tta_sim.specs.Results.{results_at, shown_by, AreThere};
 ghost use Rattle.tta_sim.specs.Lines.{IsLineThere};
 ghost use Rattle.tta_sim.specs.Order.{is_in_order};
 ghost use Rattle.tta_sim.specs.Known.{is_settled, mark_of, IsMarked};
@@ -10,8 +10,9 @@ use crate::decoded::Line;
 use crate::known::is_settled;
 use crate::order::is_in_order;
 use crate::places::Places;
-use crate::results::Results;
+use crate::results::Part;
 use std::alloc::{AllocError, Global};
+use tta_flight::Region;
 
 /// What is known of a line that is to be carried out in place.
 #[derive(Clone, Copy, Debug)]
@@ -39,19 +40,22 @@ impl Mark {
     /// Whether a line can be carried out in place and all words that it takes are set, which is noted
     /// once it is so.
     #[inline(always)]
-    pub fn settle(&mut self, places: &Places, results: &Results<'_>, line: &Line) -> bool
-        requires there { IsLineThere results.now.units line.now }
-        requires marked { IsMarked places.now (shown_by results.now) line.now self.old }
-        ensures marked { IsMarked places.now (shown_by results.now) line.now self.new }
+    pub fn settle(&mut self, places: &Places, region: &Region, part: Part, line: &Line) -> bool
+        requires are { AreThere (results_at part region.now) }
+        requires there { IsLineThere part.count line.now }
+        requires marked { let shown = shown_by (results_at part region.now) in
+            IsMarked places.now shown line.now self.old }
+        ensures marked { let shown = shown_by (results_at part region.now) in
+            IsMarked places.now shown line.now self.new }
         ensures order { result ≡ true → is_in_order line.now ≡ true }
-        ensures settled { result ≡ true
-            → is_settled places.now (shown_by results.now) line.now ≡ true }
+        ensures settled { result ≡ true → let shown = shown_by (results_at part region.now) in
+            is_settled places.now shown line.now ≡ true }
     {
         match *self {
             Mark::Settled => true,
             Mark::Apart => false,
             Mark::Ordered => {
-                if !is_settled(places, results.reborrow(), line) {
+                if !is_settled(places, region, part, line) {
                     return false;
                 }
                 *self = Mark::Settled;

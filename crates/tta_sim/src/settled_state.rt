@@ -11,7 +11,6 @@ use crate::control::Phase;
 use crate::decoded::Line;
 use crate::in_place::{carry_in_place, is_free};
 use crate::mark::Mark;
-use crate::results::Results;
 use crate::run::Context;
 use crate::state::{SimState, part_of};
 use tta_arch::Machine;
@@ -74,8 +73,7 @@ impl SimState {
             units,
         };
         let store = &self.run.store;
-        let results = Results::of(region, context.part);
-        if !marks[pc].settle(&store.places, &results, line) {
+        if !marks[pc].settle(&store.places, region, context.part, line) {
             return false;
         }
         if !is_free(store, region, context.part, &self.run.control, line) {

@@ -182,7 +182,7 @@ impl Sim {
     /// may output or take a word, or may store or make control act and is not carried out in place, or
     /// until the run is over. It answers how many it carried out, one that faults among them. It takes
     /// no memory.
-    #[inline(always)]
+    #[inline(never)]
     pub fn go_on(&mut self, m: &Machine, code: &Code, units: &UnitSet, most: u64) -> u64
         requires loaded { IsRunOf m.now code.now self.old }
         requires few { self.old.cycle + most < 2 ^ 62 }

@@ -19,6 +19,7 @@ pub fn zeros(alloc: Global, count: usize) -> Result<Vec<u32>, AllocError>
 }
 
 /// The word at an address, 0 outside the space.
+#[inline(always)]
 pub fn load(space: &[u32], address: u32) -> u32
     ensures { result ≡ slice_index space.now address }
 {
@@ -29,6 +30,7 @@ pub fn load(space: &[u32], address: u32) -> u32
 }
 
 /// Puts a word at an address. It does nothing outside the space.
+#[inline(always)]
 fn store(space: &mut Vec<u32>, address: u32, word: u32)
     ensures { space.new.items ≡ slice_set space.old.items address word }
 {
@@ -39,6 +41,7 @@ fn store(space: &mut Vec<u32>, address: u32, word: u32)
 }
 
 /// Stores an operation's word in the space that it is for, if it stores.
+#[inline(always)]
 pub fn store_one(memory: &mut Vec<u32>, frame: &mut Vec<u32>, start: &Start)
     ensures data { memory.new.items ≡ store_data memory.old.items start.now }
     ensures frame { frame.new.items ≡ store_frame frame.old.items start.now }

@@ -12,7 +12,7 @@ use Rattle.tta_sim.proofs.Marking.{marked_set, marked_grows}
 use Rattle.tta_sim.proofs.Reaching.{Reached, at_line, code_stays, goes, answers}
 use Rattle.tta_sim.proofs.Silent.{silent_cycle}
 use Rattle.tta_sim.proofs.state.SimState.cycle_in_place.Given as given
-use Rattle.tta_sim.proofs.state.SimState.cycle_in_place.Goals.{After-of-results}
+use Rattle.tta_sim.proofs.state.SimState.cycle_in_place.Goals.{After-m}
 use Rattle.tta_sim.proofs.state.SimState.cycle_in_place.Goals as goal
 
 pub bounds-as_slice-pc : goal.bounds-as_slice-pc
@@ -27,7 +27,7 @@ index_mut-requires g c =
     omega (arith, c.if-pc-len.false, c.len.ensures, lines, c.requires.marked.count)
 
 -- the line at the address
-module _ (g : given.Over) (c : After-of-results g) where
+module _ (g : given.Over) (c : After-m g) where
   pub reached : Reached c.args.m.now c.args.code.now c.args.self.now 0 c.args.region.now c.part_of.result c.self.inside.lines c.self.inside.run.store
       c.self.inside.run.control c.m.inside.control.delay c.index-as_slice-pc.result
   reached = record {
@@ -46,8 +46,8 @@ module _ (g : given.Over) (c : After-of-results g) where
   ready = at_line reached c.requires.few
 
   -- what the ports show, by either name
-  shown_is : shown_by c.of-results.result ≡ all_shown c.args.region.now
-  shown_is = ap shown_by c.of-results.ensures ∙ ap (λ p. shown_by (results_at p c.args.region.now)) c.part_of.ensures
+  shown_is : shown_by (results_at c.part_of.result c.args.region.now) ≡ all_shown c.args.region.now
+  shown_is = ap (λ p. shown_by (results_at p c.args.region.now)) c.part_of.ensures
 
   line_at : slice_get c.args.self.now.lines c.self.inside.run.control.pc ≡ Some c.index-as_slice-pc.result
   line_at =
@@ -59,12 +59,12 @@ module _ (g : given.Over) (c : After-of-results g) where
 
 pub settle-requires-clause-there : goal.settle-requires-clause-there
 settle-requires-clause-there g c =
-    let at = (goal.at.settle-requires-clause-there g c).After-of-results in
-    subst (λ r. IsLineThere r.units c.index-as_slice-pc.result) (sym c.of-results.ensures) (ready g at).there
+    let at = (goal.at.settle-requires-clause-there g c).After-m in
+    (ready g at).there
 
 pub settle-requires-clause-marked : goal.settle-requires-clause-marked
 settle-requires-clause-marked g c =
-    let at = (goal.at.settle-requires-clause-marked g c).After-of-results in
+    let at = (goal.at.settle-requires-clause-marked g c).After-m in
     let line = c.index-as_slice-pc.result in
     let pc = c.self.inside.run.control.pc in
     let many = ap length c.requires.loaded.decoded ∙ length-lines c.args.m.now (1 + c.args.m.now.control.delay) c.args.code.now.words in
@@ -76,7 +76,7 @@ settle-requires-clause-marked g c =
     (c.requires.marked.each pc line c.index_mut.result.now (line_at g at) mark_at))
 
 -- the marks once that of the line was looked at
-module _ (g : given.Over) (c : After-of-results g) (m : Mark) (is : IsMarked c.self.inside.run.store.places (shown_by c.of-results.result) c.index-as_slice-pc.result m) where
+module _ (g : given.Over) (c : After-m g) (m : Mark) (is : IsMarked c.self.inside.run.store.places (shown_by (results_at c.part_of.result c.args.region.now)) c.index-as_slice-pc.result m) where
   abbrev pub marks : List Mark
   marks = slice_set c.args.marks.now.items c.self.inside.run.control.pc m
 
@@ -89,34 +89,34 @@ module _ (g : given.Over) (c : After-of-results g) (m : Mark) (is : IsMarked c.s
 
 pub returns-then-not-settle-clause-marked : goal.returns-then-not-settle-clause-marked
 returns-then-not-settle-clause-marked g c =
-    marked g (goal.at.returns-then-not-settle-clause-marked g c).After-of-results c.settle.new.self c.settle.ensures.marked
+    marked g (goal.at.returns-then-not-settle-clause-marked g c).After-m c.settle.new.self c.settle.ensures.marked
 
 pub is_free-requires-clause-there : goal.is_free-requires-clause-there
-is_free-requires-clause-there g c = (ready g (goal.at.is_free-requires-clause-there g c).After-of-results).there
+is_free-requires-clause-there g c = (ready g (goal.at.is_free-requires-clause-there g c).After-m).there
 
 pub is_free-requires-clause-fits : goal.is_free-requires-clause-fits
-is_free-requires-clause-fits g c = (ready g (goal.at.is_free-requires-clause-fits g c).After-of-results).fitting
+is_free-requires-clause-fits g c = (ready g (goal.at.is_free-requires-clause-fits g c).After-m).fitting
 
 pub returns-then-not-is_free-clause-marked : goal.returns-then-not-is_free-clause-marked
 returns-then-not-is_free-clause-marked g c =
-    marked g (goal.at.returns-then-not-is_free-clause-marked g c).After-of-results c.settle.new.self c.settle.ensures.marked
+    marked g (goal.at.returns-then-not-is_free-clause-marked g c).After-m c.settle.new.self c.settle.ensures.marked
 
 pub carry_in_place-requires-clause-ready : goal.carry_in_place-requires-clause-ready
-carry_in_place-requires-clause-ready g c = ready g (goal.at.carry_in_place-requires-clause-ready g c).After-of-results
+carry_in_place-requires-clause-ready g c = ready g (goal.at.carry_in_place-requires-clause-ready g c).After-m
 
 -- ---- once it is carried out
 
 pub returns-clause-loaded : goal.returns-clause-loaded
 returns-clause-loaded g c =
     let U = stated (λ v. (goal.OpUnit-dyn g v).unit_meaning v.1) c.args.units.now in
-    code_stays (reached g (goal.at.returns-clause-loaded g c).After-of-results) U None _ _ _ _ (c.carry_in_place.ensures None)
+    code_stays (reached g (goal.at.returns-clause-loaded g c).After-m) U None _ _ _ _ (c.carry_in_place.ensures None)
 
 pub returns-clause-kept : goal.returns-clause-kept
 returns-clause-kept g c = (c.carry_in_place.ensures None).others.kept
 
 pub returns-clause-marked : goal.returns-clause-marked
 returns-clause-marked g c =
-    let at = (goal.at.returns-clause-marked g c).After-of-results in
+    let at = (goal.at.returns-clause-marked g c).After-m in
     let words = (c.carry_in_place.ensures None).words in
     let before = subst (λ h. AreMarked h.places (all_shown c.args.region.now) h.lines (marks g at c.settle.new.self c.settle.ensures.marked)) (sym c.self.view_is)
     (marked g at c.settle.new.self c.settle.ensures.marked) in
@@ -130,6 +130,6 @@ returns-clause-counted g c = omega (arith, (c.carry_in_place.ensures None).count
 pub returns-clause-next : goal.returns-clause-next
 returns-clause-next g c = λ s same.
     let U = stated (λ v. (goal.OpUnit-dyn g v).unit_meaning v.1) c.args.units.now in
-    let here = reached g (goal.at.returns-clause-next g c).After-of-results in
+    let here = reached g (goal.at.returns-clause-next g c).After-m in
     let made = c.carry_in_place.ensures (slice_get s.rest 0) in
     silent_cycle U c.args.m.now c.args.code.now _ _ s (Ran None false) refl (goes here U _ _ _ _ _ made s same refl) (answers here U _ _ _ _ _ made s same refl)
