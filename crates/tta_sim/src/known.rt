@@ -10,9 +10,7 @@ ghost use Rattle.tta_sim.specs.Lines.{is_start_there, is_control_there, IsLineTh
 ghost use Rattle.tta_sim.specs.Known.{is_guard_known, is_guard_let, is_known};
 ghost use Rattle.tta_sim.specs.Known.{is_start_known, is_settled};
 
-use crate::decoded::{
-    DecodedControl, DecodedSource, DecodedStart, DecodedWrite, Line, Reading,
-};
+use crate::decoded::{DecodedControl, DecodedSource, DecodedStart, DecodedWrite, Line, Reading};
 use crate::places::Places;
 use crate::results::{Part, Results};
 use tta_flight::Region;
@@ -97,9 +95,8 @@ fn are_controls_known(places: &Places, results: &Results<'_>, moves: &[DecodedCo
     true
 }
 
-/// Whether all that the moves of a line take is set. It is not in line, since it is asked for once
-/// for each line.
-#[inline(never)]
+/// Whether all that the moves of a line take is set.
+#[inline(always)]
 pub fn is_settled(places: &Places, region: &Region, part: Part, line: &Line) -> bool
     requires are { AreThere (results_at part region.now) }
     requires there { IsLineThere part.count line.now }

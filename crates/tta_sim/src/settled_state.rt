@@ -62,8 +62,9 @@ impl SimState {
             Phase::Running => {}
             Phase::Halted | Phase::Fault(_) => return false,
         }
+        // There is a mark for each instruction of the code.
         let pc = self.run.control.pc as usize;
-        if pc >= code.words.len() {
+        if pc >= marks.len() {
             return false;
         }
         let line = &self.lines.as_slice()[pc];

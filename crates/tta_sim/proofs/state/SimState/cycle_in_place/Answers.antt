@@ -3,7 +3,6 @@ use Rattle.std.proofs.lemmas.Option.{slice_get-get_or}
 use Rattle.tta_sim.specs.Cited.{stated, IsMachine}
 use Rattle.tta_sim.specs.declared.mark.Mark.{Mark}
 use Rattle.tta_sim.specs.declared.cycle_step.CycleStep.TheVariants.{Ran}
-use Rattle.tta_sim.specs.Lines.{IsLineThere}
 use Rattle.tta_sim.specs.Kept.{kept_as, IsAtLine}
 use Rattle.tta_sim.specs.Results.{results_at, shown_by}
 use Rattle.tta_sim.specs.Known.{all_shown, Grows, IsMarked, AreMarked}
@@ -17,13 +16,7 @@ use Rattle.tta_sim.proofs.state.SimState.cycle_in_place.Goals as goal
 
 pub bounds-as_slice-pc : goal.bounds-as_slice-pc
 bounds-as_slice-pc g c =
-    let lines = c.as_slice.ensures ∙ ap (λ h. h.lines) c.self.view_is ∙ c.requires.loaded.decoded in
-    let many = ap length lines ∙ length-lines c.args.m.now (1 + c.args.m.now.control.delay) c.args.code.now.words in
-    omega (arith, c.if-pc-len.false, c.len.ensures, many)
-
-pub index_mut-requires : goal.index_mut-requires
-index_mut-requires g c =
-    let lines = ap length c.requires.loaded.decoded ∙ length-lines c.args.m.now (1 + c.args.m.now.control.delay) c.args.code.now.words in
+    let lines = ap length (c.as_slice.ensures ∙ ap (λ h. h.lines) c.self.view_is) in
     omega (arith, c.if-pc-len.false, c.len.ensures, lines, c.requires.marked.count)
 
 -- the line at the address
@@ -37,7 +30,9 @@ module _ (g : given.Over) (c : After-m g) where
     part_is = c.part_of.ensures;
     view = c.self.view_is;
     running = c.in-Running.is;
-    within = omega (arith, c.if-pc-len.false, c.len.ensures);
+    within =
+        let many = ap length c.requires.loaded.decoded ∙ length-lines c.args.m.now (1 + c.args.m.now.control.delay) c.args.code.now.words in
+        omega (arith, c.if-pc-len.false, c.len.ensures, many, c.requires.marked.count);
     delay_is = ap (λ m. m.control.delay) c.m.view_is;
     line_is = c.index-as_slice-pc.is ∙ ap (λ ls. get_or ls c.self.inside.run.control.pc c.index-as_slice-pc.result) c.as_slice.ensures;
   }
@@ -51,8 +46,7 @@ module _ (g : given.Over) (c : After-m g) where
 
   line_at : slice_get c.args.self.now.lines c.self.inside.run.control.pc ≡ Some c.index-as_slice-pc.result
   line_at =
-      let many = ap length c.requires.loaded.decoded ∙ length-lines c.args.m.now (1 + c.args.m.now.control.delay) c.args.code.now.words in
-      let within : c.self.inside.run.control.pc < length c.args.self.now.lines = omega (arith, c.if-pc-len.false, c.len.ensures, many) in
+      let within : c.self.inside.run.control.pc < length c.args.self.now.lines = omega (arith, c.if-pc-len.false, c.len.ensures, c.requires.marked.count) in
       slice_get-get_or c.args.self.now.lines c.self.inside.run.control.pc c.index-as_slice-pc.result within
       ∙ ap (λ ls. Some (get_or ls c.self.inside.run.control.pc c.index-as_slice-pc.result)) (sym (ap (λ h. h.lines) c.self.view_is))
       ∙ ap Some (sym reached.line_is)
@@ -67,8 +61,7 @@ settle-requires-clause-marked g c =
     let at = (goal.at.settle-requires-clause-marked g c).After-m in
     let line = c.index-as_slice-pc.result in
     let pc = c.self.inside.run.control.pc in
-    let many = ap length c.requires.loaded.decoded ∙ length-lines c.args.m.now (1 + c.args.m.now.control.delay) c.args.code.now.words in
-    let within : pc < length c.args.marks.now.items = omega (arith, c.if-pc-len.false, c.len.ensures, many, c.requires.marked.count) in
+    let within : pc < length c.args.marks.now.items = omega (arith, c.if-pc-len.false, c.len.ensures) in
     let mark_at : slice_get c.args.marks.now.items pc ≡ Some c.index_mut.result.now =
     slice_get-get_or c.args.marks.now.items pc c.index_mut.result.now within ∙ ap Some (sym c.index_mut.ensures.value) in
     subst (λ f. IsMarked c.self.inside.run.store.places f line c.index_mut.result.now) (sym (shown_is g at))
