@@ -95,8 +95,9 @@ fn are_controls_known(places: &Places, results: &Results<'_>, moves: &[DecodedCo
     true
 }
 
-/// Whether all that the moves of a line take is set.
-#[inline(always)]
+/// Whether all that the moves of a line take is set. It is not in line, since it is asked for once
+/// for most lines.
+#[inline(never)]
 pub fn is_settled(places: &Places, region: &Region, part: Part, line: &Line) -> bool
     requires are { AreThere (results_at part region.now) }
     requires there { IsLineThere part.count line.now }

@@ -37,10 +37,10 @@ impl Mark {
         }
     }
 
-    /// Whether a line that is not settled can be carried out in place and all words that it takes are
-    /// set by now, which is noted then. It is not in line, since that comes once for most lines.
-    #[inline(never)]
-    fn settle_once(&mut self, places: &Places, region: &Region, part: Part, line: &Line) -> bool
+    /// Whether a line can be carried out in place and all words that it takes are set, which is noted
+    /// once it is so.
+    #[inline(always)]
+    pub fn settle(&mut self, places: &Places, region: &Region, part: Part, line: &Line) -> bool
         requires are { AreThere (results_at part region.now) }
         requires there { IsLineThere part.count line.now }
         requires marked { let shown = shown_by (results_at part region.now) in
@@ -62,26 +62,6 @@ impl Mark {
                 true
             }
         }
-    }
-
-    /// Whether a line can be carried out in place and all words that it takes are set, which is noted
-    /// once it is so.
-    #[inline(always)]
-    pub fn settle(&mut self, places: &Places, region: &Region, part: Part, line: &Line) -> bool
-        requires are { AreThere (results_at part region.now) }
-        requires there { IsLineThere part.count line.now }
-        requires marked { let shown = shown_by (results_at part region.now) in
-            IsMarked places.now shown line.now self.old }
-        ensures marked { let shown = shown_by (results_at part region.now) in
-            IsMarked places.now shown line.now self.new }
-        ensures order { result ≡ true → is_in_order line.now ≡ true }
-        ensures settled { result ≡ true → let shown = shown_by (results_at part region.now) in
-            is_settled places.now shown line.now ≡ true }
-    {
-        if let Mark::Settled = *self {
-            return true;
-        }
-        self.settle_once(places, region, part, line)
     }
 }
 
