@@ -1,14 +1,14 @@
 -- Operations that start one after another, where none reads what one before it shows and a store is the last.
-use Rattle.std.proofs.Common.{◌≡◌, ◌<◌, ◌+◌, ◌==◌, ◌&&◌, not, ℕ, Bool, true, false, IsTrue, List, [], ◌∷◌, ◌++◌, length, map, take, drop, get_or, Option, None, Some, refl, ap, sym, ◌∙◌, subst}
+use Rattle.std.proofs.Common.{◌≡◌, ◌<◌, ◌+◌, ◌==◌, ◌&&◌, ◌||◌, not, ℕ, Bool, true, false, IsTrue, List, [], ◌∷◌, ◌++◌, length, map, take, drop, get_or, Option, None, Some, refl, ap, sym, ◌∙◌, subst}
 use Rattle.std.specs.Prelude.{is_some, fold, option_map, option_to_list, slice_index_or, if◌then◌else◌}
 use Rattle.std.specs.Option.{option_or}
 use Rattle.std.specs.List.{filter_map, cons_option, list_any, AllByRecursion}
-use Rattle.std.proofs.lemmas.Bool.{and_parts, or_parts, not-true, ltb-true}
+use Rattle.std.proofs.lemmas.Bool.{and_parts, and_from, or_parts, not-true, ltb-true}
 use Rattle.std.proofs.lemmas.List.{append-nil, drop_more, map-append, take_more, take-append-drop}
 use Rattle.std.proofs.lemmas.List.Elements.{filter_map-append}
 use Rattle.std.proofs.lemmas.List.Sums.{fold-append}
 use Rattle.tta_list.proofs.Tests.{equal_is, none_from_is_some}
-use Rattle.tta_sim.specs.Cited.{Units, Op, Ldw, Stw, Ldf, Stf, Out, Take, Set, are_different, Start, has_result, result_word, store_data, store_frame, Rings, due_at, word_due}
+use Rattle.tta_sim.specs.Cited.{Units, Op, Ldw, Stw, Ldf, Stf, Out, Take, Set, are_different, KeptOperand, Start, has_result, result_word, store_data, store_frame, Rings, due_at, word_due}
 use Rattle.tta_sim.specs.declared.decoded.DecodedSource.{DecodedSource}
 use Rattle.tta_sim.specs.declared.decoded.DecodedSource.TheVariants as decoded
 use Rattle.tta_sim.specs.declared.decoded.DecodedStart.{DecodedStart}
@@ -18,8 +18,9 @@ use Rattle.tta_sim.specs.Results.{Results, AreThere, shown_by, due_by}
 use Rattle.tta_sim.specs.Starts.{started}
 use Rattle.tta_sim.specs.Lines.{is_source_there, is_reading_there, is_start_there, word_read, start_brought, operand_in}
 use Rattle.tta_sim.specs.Dues.{due_with, shows, shown_from, started_at, IsFittingDue, CanAllBegin}
+use Rattle.tta_sim.specs.Places.{number_of}
 use Rattle.tta_sim.specs.Order.{is_port_at, is_store, is_shown_to, is_barred}
-use Rattle.tta_sim.specs.Known.{is_known}
+use Rattle.tta_sim.specs.Known.{is_known, is_start_known}
 use Rattle.tta_sim.specs.InPlace.{CanStart, StartsNow, AreStarted}
 use Rattle.tta_sim.proofs.Ahead.{at_one, one_started, can_start}
 use Rattle.tta_sim.proofs.Beginning.{apart_at, all_at, no_result}
@@ -175,10 +176,13 @@ module _ (U : Units) (store : Store) (r : Results) (there : AreThere r) (starts 
   places_same n = ap (λ ps. slice_index_or ps n None) same
 
   -- it finds the words of the begin
-  pub then_known : AllByRecursion (λ s. IsTrue (is_known store.places (shown_by r) s.reading)) starts → is_known here.places then_shown s.reading ≡ true
+  pub then_known : AllByRecursion (λ s. IsTrue (is_start_known store.places (shown_by r) s)) starts → is_start_known here.places then_shown s ≡ true
   then_known known =
-      known_same s.reading store.places here.places (shown_by r) then_shown (λ n reads. places_same n) ports_same
-      ∙ subst (λ x. is_known store.places (shown_by r) x.reading ≡ true) (sym at) (all_at (λ s. IsTrue (is_known store.places (shown_by r) s.reading)) starts k z known within)
+      let was = subst (λ x. is_start_known store.places (shown_by r) x ≡ true) (sym at)
+      (all_at (λ s. IsTrue (is_start_known store.places (shown_by r) s)) starts k z known within) in
+      let parts = and_parts (is_known store.places (shown_by r) s.reading) _ was in
+      and_from _ _ (known_same s.reading store.places here.places (shown_by r) then_shown (λ n reads. places_same n) ports_same ∙ parts.0)
+      (ap (λ o. not (s.does.arity == 2) || is_some o) (places_same (number_of (KeptOperand s.unit))) ∙ parts.1)
 
   brought_same : brought_here ≡ brought s
   brought_same =

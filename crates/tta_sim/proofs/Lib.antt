@@ -33,3 +33,5 @@ pub mod InTurn
 pub mod Settled
 pub mod Growing
 pub mod Marking
+pub mod Found
+mod OrderSamples

@@ -17,7 +17,7 @@ ghost use Rattle.tta_sim.specs.Lines.{is_write_there, is_start_there, write_brou
 ghost use Rattle.tta_sim.specs.Lines.{IsLineThere};
 ghost use Rattle.tta_sim.specs.Dues.{shown_from, started_at, CanAllBegin};
 ghost use Rattle.tta_sim.specs.Order.{is_touched, is_barred, is_in_order};
-ghost use Rattle.tta_sim.specs.Known.{is_known, is_settled};
+ghost use Rattle.tta_sim.specs.Known.{is_known, is_start_known, is_settled};
 ghost use Rattle.tta_sim.specs.InPlace.{starts_of_line, begun_here, dues_in, delay_now};
 ghost use Rattle.tta_sim.specs.InPlace.{IsWhole, AreWritten, CanStart, StartsNow, AreStarted};
 
@@ -25,13 +25,12 @@ use crate::control::Control;
 use crate::control_moves::acting_in;
 use crate::decoded::{DecodedStart, DecodedWrite, Line};
 use crate::dues::{Due, result_of};
-use crate::known::read_known;
-use crate::lines::start_of;
+use crate::known::{operand_known, read_known};
 use crate::places::Places;
 use crate::results::{Part, Results};
 use crate::run::{Context, Run};
 use crate::spaces::store_one;
-use crate::starts::clashes;
+use crate::starts::{Start, clashes};
 use crate::store::Store;
 use tta_flight::Region;
 use tta_ops::UnitSet;
@@ -90,7 +89,7 @@ fn start_one(store: &mut Store, region: &mut Region, part: Part, units: &UnitSet
     requires are { AreThere (results_at part region.old) }
     requires there { IsTrue (is_start_there part.count s.now) }
     requires known { let r = results_at part region.old in
-        is_known store.old.places (shown_by r) s.now.reading ≡ true }
+        is_start_known store.old.places (shown_by r) s.now ≡ true }
     requires can { let U = stated unit_meaning units.now in
         let begun = begun_here store.old (results_at part region.old) in
         AllByRecursion (CanStart part.base region.old)
@@ -110,7 +109,12 @@ fn start_one(store: &mut Store, region: &mut Region, part: Part, units: &UnitSet
 {
     let read = read_known(&store.places, &Results::of(region, part), &s.reading);
     if let Some(word) = read {
-        let start = start_of(&[], &store.places, s, word);
+        let start = Start {
+            unit: s.unit,
+            does: s.does,
+            operand: Some(operand_known(&store.places, s)),
+            word,
+        };
         let memory = store.memory.as_slice();
         match result_of(units, memory, store.frame.as_slice(), 0, &start) {
             Some(value) => show(
@@ -139,8 +143,8 @@ pub fn start_in_place(
 )
     requires are { AreThere (results_at part region.old) }
     requires there { AllByRecursion (λ s. IsTrue (is_start_there part.count s)) moves.now }
-    requires known { let known = is_known store.old.places (shown_by (results_at part region.old)) in
-        AllByRecursion (λ s. IsTrue (known s.reading)) moves.now }
+    requires known { let r = results_at part region.old in
+        AllByRecursion (λ s. IsTrue (is_start_known store.old.places (shown_by r) s)) moves.now }
     requires order { are_different is_barred moves.now ≡ true }
     requires can { let U = stated unit_meaning units.now in
         let r = results_at part region.old in

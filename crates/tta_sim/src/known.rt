@@ -1,6 +1,9 @@
 //! Lines that take words which are all set.
 
-ghost use Rattle.std.specs.Prelude.{◌≡◌, true, is_some, nat_lt, IsTrue};
+ghost use Rattle.std.specs.Prelude.{◌≡◌, ◌==◌, None, true, if◌then◌else◌, is_some, nat_lt};
+ghost use Rattle.std.specs.Prelude.{slice_index_or, IsTrue};
+ghost use Rattle.tta_arch.specs.Effects.{KeptOperand};
+ghost use Rattle.tta_sim.specs.Places.{is_place, number_of};
 ghost use Rattle.std.specs.Option.{option_map_or, unwrap_or};
 ghost use Rattle.std.specs.List.{list_all, AllByRecursion};
 ghost use Rattle.tta_sim.specs.Results.{results_at, shown_by, AreThere};
@@ -146,4 +149,18 @@ pub fn read_known(places: &Places, results: &Results<'_>, r: &Reading) -> Option
         return None;
     }
     Some(word_known(places, results, r))
+}
+
+/// The word that an operation takes from its unit's operand port, 0 where it takes none.
+#[inline(always)]
+pub fn operand_known(places: &Places, s: &DecodedStart) -> u32
+    requires { IsTrue (is_place (KeptOperand s.now.unit)) }
+    ensures { result ≡ (if s.now.does.arity == 2
+        then unwrap_or (slice_index_or places.now (number_of (KeptOperand s.now.unit)) None) 0 else 0) }
+{
+    if s.does.arity == 2 {
+        places.operand(s.unit).unwrap_or(0)
+    } else {
+        0
+    }
 }

@@ -16,7 +16,7 @@ use Rattle.tta_sim.specs.Writing.{long_writes}
 use Rattle.tta_sim.specs.Lines.{write_brought, control_brought, operand_in, is_ready}
 use Rattle.tta_sim.specs.Dues.{shown_from, started_at, CanAllBegin}
 use Rattle.tta_sim.specs.Ready.{writes_in, begun_in, AreLeft, Begin}
-use Rattle.tta_sim.specs.Known.{is_known}
+use Rattle.tta_sim.specs.Known.{is_known, is_start_known}
 use Rattle.tta_sim.specs.InPlace.{starts_of_line, begun_here, dues_in, AreWritten, AreStarted}
 use Rattle.tta_sim.proofs.Acting.{carried_at}
 use Rattle.tta_sim.proofs.Ahead.{all_begin, none_beside}
@@ -25,7 +25,8 @@ use Rattle.tta_sim.proofs.Facing.{none_found, placed, acting_same}
 use Rattle.tta_sim.proofs.Growing.{written_grows, begun_grows}
 use Rattle.tta_sim.proofs.Leaving.{arrivals, starts, is_left}
 use Rattle.tta_sim.proofs.Placed.{written_places}
-use Rattle.tta_sim.proofs.Settled.{Ordered, ordered, all_known, settled_ready, plain_starts, starts_known, starts_begun, control_same}
+use Rattle.tta_sim.proofs.Settled.{Ordered, ordered, all_known, settled_ready}
+use Rattle.tta_sim.proofs.Found.{plain_starts, starts_known, starts_begun, control_same}
 use Rattle.tta_sim.proofs.Shown.{dues_begun, dues_can}
 use Rattle.tta_sim.proofs.Writes.{length-stored, length-stored_frame}
 use Rattle.tta_sim.proofs.in_place.carry_in_place.Goals.{After-write_in_place}
@@ -65,7 +66,7 @@ module _ (g : given.Over) (c : After-write_in_place g) where
   begun_is : filter_map (begun_here after r) c.args.line.now.starts ≡ ts
   begun_is = starts_begun store r c.args.line.now (ordered c.args.line.now c.requires.order) after written
 
-  known : AllByRecursion (λ s. IsTrue (is_known after.places (shown_by r) s.reading)) c.args.line.now.starts
+  known : AllByRecursion (λ s. IsTrue (is_start_known after.places (shown_by r) s)) c.args.line.now.starts
   known = starts_known store r c.args.line.now (ordered c.args.line.now c.requires.order) after written (all_known store.places (shown_by r) c.args.line.now c.requires.settled)
 
   module _ (U : Units) where
@@ -80,7 +81,7 @@ module _ (g : given.Over) (c : After-write_in_place g) where
 pub start_in_place-requires-clause-known : goal.start_in_place-requires-clause-known
 start_in_place-requires-clause-known g c =
     let at = (goal.at.start_in_place-requires-clause-known g c).After-write_in_place in
-    subst (λ ss. AllByRecursion (λ s. IsTrue (is_known c.write_in_place.new.places (shown_by (r g at)) s.reading)) ss) (sym c.as_slice-2.ensures) (known g at)
+    subst (λ ss. AllByRecursion (λ s. IsTrue (is_start_known c.write_in_place.new.places (shown_by (r g at)) s)) ss) (sym c.as_slice-2.ensures) (known g at)
 
 pub start_in_place-requires-clause-can : goal.start_in_place-requires-clause-can
 start_in_place-requires-clause-can g c =
