@@ -15,7 +15,7 @@ use Rattle.tta_alloc.specs.declared.home.Home.{Home}
 use Rattle.tta_alloc.specs.declared.home.Home.TheVariants.{Reg, Slot}
 use Rattle.tta_alloc.specs.declared.homes.Homes.{Homes}
 use Rattle.tta_alloc.specs.declared.interval.Interval.{Interval}
-use Rattle.tta_alloc.specs.Known.{Known}
+use Rattle.tta_alloc.specs.IsAnalysed.{IsAnalysed}
 use Rattle.tta_alloc.specs.Scan.{scan_step, scan_all, scan_start, slots_from, Scan, take_free, take_from, turn_out, first_free, last_from}
 use Rattle.tta_alloc.specs.Homes.{count_of, home_of, IsScanOf, IsScan}
 use Rattle.tta_alloc.specs.Turns.{AreInTurnOf, AreInTurn}
@@ -38,7 +38,7 @@ pub known : (inside p : Program) (procs : List Proc) (owner : ℕ) (q : Proc) (b
     → IsFlow p blocks → IsLive p live
     → ((o i : ℕ) → o < length procs → is_listed t o i ≡ true → Holds blocks o i)
     → ((o i : ℕ) → o < length procs → Holds blocks o i → is_listed t o i ≡ true)
-    → ((i : ℕ) → is_found reached i ≡ is_listed t owner i) → Known q owner reached live
+    → ((i : ℕ) → is_found reached i ≡ is_listed t owner i) → IsAnalysed q owner reached live
 known inside p procs owner q blocks live t reached view rules read below is flow lives sound whole list = record {
   closed = closed_of p q (proc_keeps inside p procs view read owner q below is rules);
   few = let s = steps_few p.procs owner q there in let l = (subst IsProgram view rules).lines in omega arith;

@@ -10,7 +10,7 @@ use Rattle.tta_alloc.specs.declared.body.Body.{Body}
 use Rattle.tta_alloc.specs.declared.met.Seen.{Seen}
 use Rattle.tta_alloc.specs.Bodies.{IsKnown, at_entry, at_step, counted, Fills}
 use Rattle.tta_alloc.specs.Intervals.{Counts, IsParam, IsLiveAtEntry, IsRead, IsAssigned, IsLiveBefore, IsLiveAfter}
-use Rattle.tta_alloc.specs.Known.{Known}
+use Rattle.tta_alloc.specs.IsAnalysed.{IsAnalysed}
 use Rattle.tta_alloc.specs.Meetings.{met, or_met, IsSound, Meets}
 
 steps_within : (steps : List Step) → IsClosed steps → (k : ℕ) → Reached steps k → k < length steps
@@ -25,7 +25,7 @@ pub reached_small : (b : Body) → IsKnown b → (k : ℕ) → Reached b.q.now.s
 reached_small b h k r = steps_within b.q.now.steps h.closed k r
 
 -- what is known, by a row of the steps in place of their list
-pub known_body : (b : Body) (reached : List ℕ) → Known b.q.now b.owner reached b.live.now
+pub known_body : (b : Body) (reached : List ℕ) → IsAnalysed b.q.now b.owner reached b.live.now
     → ((k : ℕ) → k < length b.q.now.steps → has b.reached.now k ≡ is_found reached k) → IsKnown b
 known_body b reached h row = record {
   closed = h.closed;

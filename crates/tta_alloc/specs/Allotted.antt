@@ -17,11 +17,11 @@ pub record AreAllottedOf (q : Proc) (homes : ℕ) (answer : List Home) : Type 0 
   pub slots : (x : ℕ) → x < q.vars → (slice_get answer x ≡ Some (Slot x)) ↔ (slice_get first x ≡ Some (Slot x))
 
 -- Homes of a program keep the law and have the slots of the linear scan, with so many home registers.
-pub record AreAllotted (p : Program) (homes : ℕ) (h : Homes) : Type 0 where
+pub record SlotsAsScanned (p : Program) (homes : ℕ) (h : Homes) : Type 0 where
   pub count : count_of h ≡ homes
   pub allotted : (owner : ℕ) (q : Proc) → slice_get p.procs owner ≡ Some q
       → (answer : List Home) × (AreAllottedOf q homes answer × ((x : ℕ) → x < q.vars → slice_get answer x ≡ Some (home_of h owner x)))
 
 -- a linear scan is one way to give homes
 abbrev pub ScansAllot : Type 0
-ScansAllot = (p : Program) (homes : ℕ) (h : Homes) → IsScan p homes h → AreAllotted p homes h
+ScansAllot = (p : Program) (homes : ℕ) (h : Homes) → IsScan p homes h → SlotsAsScanned p homes h

@@ -8,7 +8,7 @@ use Rattle.tta_alloc.specs.declared.home.Home.TheVariants.{Reg, Slot}
 use Rattle.tta_alloc.specs.declared.homes.Homes.{Homes}
 use Rattle.tta_alloc.specs.Intervals.{IsBefore, TakesPart}
 use Rattle.tta_alloc.specs.Homes.{count_of, home_of}
-use Rattle.tta_alloc.specs.Allotted.{AreAllottedOf, AreAllotted}
+use Rattle.tta_alloc.specs.Allotted.{AreAllottedOf, SlotsAsScanned}
 
 -- an interval that is taken before another has a home register
 pub record Had (q : Proc) (answer : List Home) (a : Interval) (k : ℕ) (b : Interval) : Type 0 where
@@ -37,7 +37,7 @@ pub record AreInTurn (p : Program) (homes : ℕ) (h : Homes) : Type 0 where
 
 -- to give home registers in turn is another
 abbrev pub TurnsAllot : Type 0
-TurnsAllot = (p : Program) (homes : ℕ) (h : Homes) → AreInTurn p homes h → AreAllotted p homes h
+TurnsAllot = (p : Program) (homes : ℕ) (h : Homes) → AreInTurn p homes h → SlotsAsScanned p homes h
 
 -- whether a home is a register
 abbrev pub is_reg : Home → Bool

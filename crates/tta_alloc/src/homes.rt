@@ -5,7 +5,7 @@ ghost use Rattle.std.specs.Option.{option_map_or};
 ghost use Rattle.tta_flow.specs.Blocks.{IsFlow};
 ghost use Rattle.tta_flow.specs.Live.{IsLive};
 ghost use Rattle.tta_alloc.specs.Homes.{IsScan, IsScanOf, count_of, home_of};
-ghost use Rattle.tta_alloc.specs.Allotted.{AreAllotted, ScansAllot};
+ghost use Rattle.tta_alloc.specs.Allotted.{SlotsAsScanned, ScansAllot};
 ghost use Rattle.tta_alloc.specs.Law.{KeepsLaw};
 ghost use Rattle.tta_alloc.specs.Turns.{AreInTurn, TurnsAllot};
 ghost use Rattle.tta_program.specs.declared.program.Proc.{Proc};
@@ -70,7 +70,7 @@ pub fn assign(
     requires flow { IsFlow p.now f.now.blocks }
     requires live { IsLive p.now live.now }
     ensures scan { IfOk result (λ h. IsScan p.now homes h) }
-    ensures allotted { IfOk result (λ h. AreAllotted p.now homes h) }
+    ensures allotted { IfOk result (λ h. SlotsAsScanned p.now homes h) }
 {
     let procs = p.procs.as_slice();
     let steps = steps_of(alloc, f.blocks.as_slice(), procs.len())?;
@@ -98,7 +98,7 @@ pub fn in_turn(
     requires flow { IsFlow p.now f.now.blocks }
     requires live { IsLive p.now live.now }
     ensures turns { IfOk result (λ h. AreInTurn p.now homes h) }
-    ensures allotted { IfOk result (λ h. AreAllotted p.now homes h) }
+    ensures allotted { IfOk result (λ h. SlotsAsScanned p.now homes h) }
 {
     let procs = p.procs.as_slice();
     let steps = steps_of(alloc, f.blocks.as_slice(), procs.len())?;

@@ -4,7 +4,7 @@ ghost use Rattle.std.specs.Prelude.{◌≡◌, ◌++◌, ◌<◌, ℕ, false, If
 ghost use Rattle.tta_alloc.specs.AllIntervals.{AreIntervalsOf};
 ghost use Rattle.tta_alloc.specs.Bodies.{IsKnown};
 ghost use Rattle.tta_alloc.specs.Intervals.{AreTaken};
-ghost use Rattle.tta_alloc.specs.Known.{Known};
+ghost use Rattle.tta_alloc.specs.IsAnalysed.{IsAnalysed};
 ghost use Rattle.tta_alloc.specs.Meetings.{met};
 ghost use Rattle.tta_alloc.specs.Together.{AreAmong, interval_of};
 ghost use Rattle.tta_flow.specs.Bits.{has};
@@ -28,7 +28,7 @@ pub fn taken_of(
     reached: &[usize],
     live: &Live,
 ) -> Result<Vec<Interval>, AllocError>
-    requires { Known q.now owner reached.now live.now }
+    requires { IsAnalysed q.now owner reached.now live.now }
     ensures { IfOk result (λ taken. AreTaken q.now taken.items) }
 {
     let row = row_of(alloc, q.steps.len(), reached)?;
@@ -70,7 +70,7 @@ pub fn intervals_of(
     reached: &[usize],
     live: &Live,
 ) -> Result<Vec<Option<Interval>>, AllocError>
-    requires { Known q.now owner reached.now live.now }
+    requires { IsAnalysed q.now owner reached.now live.now }
     ensures { IfOk result (λ all. AreIntervalsOf q.now all.items) }
 {
     let row = row_of(alloc, q.steps.len(), reached)?;

@@ -4,7 +4,7 @@ use Rattle.std.specs.Prelude.{slice_get, replicate, if◌then◌else◌}
 use Rattle.std.specs.Option.{option_map_or}
 use Rattle.std.specs.List.{AllByRecursion}
 use Rattle.tta_list.proofs.Lists.{all_one}
-use Rattle.tta_board.specs.Cited.{Units, State, start, Held, is_set, settled, clocked, Code, Data, Frame, IsReset, PutWord, word_of, Hardware, StandsFor, Pin, same_pin, queue_of, HasInside, BeginUpTo, Core, Joined, joined, output_of, cycles, cycles_given, first_states, IsCore, new_words}
+use Rattle.tta_board.specs.Cited.{Units, State, start, Held, is_set, settled, clocked, Code, Data, Frame, IsReset, PutWord, word_of, Hardware, StandsFor, Pin, same_pin, queue_of, HasInside, BeginUpTo, Core, NetworkCore, joined, output_of, cycles, cycles_given, first_states, IsCore, new_words}
 use Rattle.tta_hardware.proofs.Circuits.{reset_is, goes_not, data_stays, frame_stays, rom_stays}
 use Rattle.tta_queue.specs.Queue as queue
 use Rattle.tta_queue.specs.Laws as buffer
@@ -16,7 +16,7 @@ use Rattle.tta_board.proofs.Entering.{quiet}
 use Rattle.tta_board.proofs.Standing.{stands_anew}
 
 -- a core before its first cycle
-abbrev fresh : Core → List ℕ → Joined State
+abbrev fresh : Core → List ℕ → NetworkCore State
 fresh c memory = record { state = start c.machine memory []; taken = 0 }
 
 fresh_at : (cores : List Core) (spaces : List (List ℕ)) (core : ℕ) (c : Core) (memory : List ℕ) → slice_get cores core ≡ Some c
@@ -38,16 +38,16 @@ fresh_none (x ∷ cores) (y ∷ spaces) (suc core) none = fresh_none cores space
 
 module _ (u : Units) (cores : List Core) (feeds : List (Option ℕ)) (memories : ℕ → List ℕ) (spaces : List (List ℕ)) (k : ℕ → ℕ)
     (sized : AreSpaces cores memories spaces) where
-  abbrev starts : List (Joined State)
+  abbrev starts : List (NetworkCore State)
   starts = joined (first_states cores spaces)
 
   -- what has come from outside makes no difference to what was put out
   pub silent : (core : ℕ) → output_of (cycles u cores feeds) starts core ≡ []
   silent core = by (slice_get cores core) refl where
     by : (o : Option Core) → slice_get cores core ≡ o → output_of (cycles u cores feeds) starts core ≡ []
-    by None none = ap (λ (o : Option (Joined State)). option_map_or (λ x. x.state.output) o []) (fresh_none cores spaces core none)
+    by None none = ap (λ (o : Option (NetworkCore State)). option_map_or (λ x. x.state.output) o []) (fresh_none cores spaces core none)
     by (Some c) there =
-        ap (λ (o : Option (Joined State)). option_map_or (λ x. x.state.output) o [])
+        ap (λ (o : Option (NetworkCore State)). option_map_or (λ x. x.state.output) o [])
         (fresh_at cores spaces core c (memories core) there (sized core c there).0)
 
   module _ (powers : Powers) (i : ℕ → Inputs) where

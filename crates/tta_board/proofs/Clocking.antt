@@ -3,7 +3,7 @@ use Rattle.std.proofs.Common.{◌≡◌, ℕ, Bool, true, false, ◌&&◌, List,
 use Rattle.std.specs.Prelude.{slice_get, if◌then◌else◌}
 use Rattle.std.specs.Option.{option_map_or}
 use Rattle.std.specs.List.{AllByRecursion}
-use Rattle.tta_board.specs.Cited.{Units, State, next, is_set, Asks, Puts, PutWord, Hardware, StandsFor, is_fault, is_waiting, HasStepped, Pin, InData, OutReady, OutValid, OutData, gives, Core, Network, Joined, output_of, feeder_of, after_step, stepped, interleaved, cycles_given, IsCore, HaveCome, UsesQueues, is_among, StepAtOnce, seen, new_words, CoresClock, waiting_for, IsShown}
+use Rattle.tta_board.specs.Cited.{Units, State, next, is_set, Asks, Puts, PutWord, Hardware, StandsFor, is_fault, is_waiting, HasStepped, Pin, InData, OutReady, OutValid, OutData, gives, Core, Network, NetworkCore, output_of, feeder_of, after_step, stepped, interleaved, cycles_given, IsCore, HaveCome, UsesQueues, is_among, StepAtOnce, seen, new_words, CoresClock, waiting_for, IsShown}
 use Rattle.tta_hardware.specs.Signals.{Signal as Named}
 use Rattle.tta_hardware.proofs.Circuits.{words_stay, data_stays, frame_stays, rom_stays}
 use Rattle.tta_kahn.proofs.CoreQueues.{cores_use}
@@ -19,7 +19,7 @@ use Rattle.tta_hardware.proofs.Still.{stands_too}
 use Rattle.tta_board.proofs.Standing.{same_waits}
 
 module _ (u : Units) (cores : List Core) (feeds : List (Option ℕ)) (memories : ℕ → List ℕ) (k : ℕ → ℕ) (given came : ℕ → List ℕ)
-    (b : Board) (i : Inputs) (joined : List (Joined State)) (all : AllByRecursion IsCore cores)
+    (b : Board) (i : Inputs) (joined : List (NetworkCore State)) (all : AllByRecursion IsCore cores)
     (have : HaveCome (cycles_given u cores feeds given) came) (wired : AreWired u cores feeds memories k b i)
     (on : i.reset ≡ false) (stand : StandForCores u cores feeds memories k came b joined)
     (fine : AreFine u cores feeds memories k came joined) where
@@ -51,7 +51,7 @@ module _ (u : Units) (cores : List Core) (feeds : List (Option ℕ)) (memories :
   abbrev held : ℕ → Core → Hardware
   held core c = core_after u cores feeds memories k b i core (Some c)
 
-  abbrev at : ℕ → Joined State → State
+  abbrev at : ℕ → NetworkCore State → State
   at core j = record j.state { rest = shown core }
 
   abbrev Among : ℕ → Core → Type 0
@@ -62,7 +62,7 @@ module _ (u : Units) (cores : List Core) (feeds : List (Option ℕ)) (memories :
   among_goes : (core : ℕ) (c : Core) → slice_get cores core ≡ Some c → is_among core going ≡ goes_at core c
   among_goes core c there = passing.among_goes u cores feeds memories k b i core c there
 
-  step_is : (core : ℕ) (c : Core) (j : Joined State) → slice_get cores core ≡ Some c
+  step_is : (core : ℕ) (c : Core) (j : NetworkCore State) → slice_get cores core ≡ Some c
       → after_step net core (shown core) j ≡ next u c.machine c.code (at core j)
   step_is core c j there = making.step_is u cores feeds memories k came b i joined all wired on stand fine core c j there
 
@@ -71,13 +71,13 @@ module _ (u : Units) (cores : List Core) (feeds : List (Option ℕ)) (memories :
   makes core c there s goes = making.makes u cores feeds memories k came b i joined all wired on stand fine core c there s goes
 
   -- what is at a core's place is what its circuit stands for
-  record Which (core : ℕ) (j : Joined State) : Type 0 where
+  record Which (core : ℕ) (j : NetworkCore State) : Type 0 where
     pub core_is : Core
     pub there : slice_get cores core ≡ Some core_is
     pub among : Among core core_is
     pub same : among.now ≡ j
 
-  which : (core : ℕ) (j : Joined State) → slice_get joined core ≡ Some j → Which core j
+  which : (core : ℕ) (j : NetworkCore State) → slice_get joined core ≡ Some j → Which core j
   which core j there = by (slice_get cores core) refl where
     by : (o : Option Core) → slice_get cores core ≡ o → Which core j
     by None none = absurd (let e : Some j ≡ None = sym there ∙ stand.none core none in cc)
@@ -85,15 +85,15 @@ module _ (u : Units) (cores : List Core) (feeds : List (Option ℕ)) (memories :
         let s = stand.each core c is in
         record { core_is = c; there = is; among = s; same = (let e : Some s.now ≡ Some j = sym s.there ∙ there in cc) }
 
-  waits_not : (core : ℕ) (j : Joined State) → is_among core going ≡ true → slice_get joined core ≡ Some j
+  waits_not : (core : ℕ) (j : NetworkCore State) → is_among core going ≡ true → slice_get joined core ≡ Some j
       → net.waits (after_step net core (shown core) j) ≡ false
   waits_not core j among there =
       let w = which core j there in
       let goes : goes_at core w.core_is ≡ true = sym (among_goes core w.core_is w.there) ∙ among in
-      ap (λ (x : Joined State). net.waits (after_step net core (shown core) x)) (sym w.same)
+      ap (λ (x : NetworkCore State). net.waits (after_step net core (shown core) x)) (sym w.same)
       ∙ ap net.waits (step_is core w.core_is w.among.now w.there) ∙ same_waits _ ∙ (makes core w.core_is w.there w.among goes).goes_on
 
-  are_shown : (core : ℕ) (j : Joined State) → is_among core going ≡ true → slice_get joined core ≡ Some j
+  are_shown : (core : ℕ) (j : NetworkCore State) → is_among core going ≡ true → slice_get joined core ≡ Some j
       → IsShown net joined core (shown core) j
   are_shown core j among there =
       let shows = making.shows u cores feeds memories k came b i joined all wired on stand fine core j there in
@@ -101,7 +101,7 @@ module _ (u : Units) (cores : List Core) (feeds : List (Option ℕ)) (memories :
       shown_of_all net came have joined core (shown core) j
       (record { within = (stand.queued core j there).within; later = first.0; begins = first.1; goes = waits_not core j among there })
 
-  abbrev after : List (Joined State)
+  abbrev after : List (NetworkCore State)
   after = interleaved net joined going
 
   at_once : StepAtOnce net shown going joined after
@@ -112,24 +112,24 @@ module _ (u : Units) (cores : List Core) (feeds : List (Option ℕ)) (memories :
 
   -- ---- what passes between circuits
 
-  asks : (core : ℕ) (j : Joined State) → is_among core going ≡ true → slice_get joined core ≡ Some j
+  asks : (core : ℕ) (j : NetworkCore State) → is_among core going ≡ true → slice_get joined core ≡ Some j
       → net.rest (after_step net core (shown core) j) ≡ (if gives (env core) then [] else shown core)
   asks core j among there =
       let w = which core j there in
       let goes : goes_at core w.core_is ≡ true = sym (among_goes core w.core_is w.there) ∙ among in
-      ap (λ (x : Joined State). net.rest (after_step net core (shown core) x)) (sym w.same)
+      ap (λ (x : NetworkCore State). net.rest (after_step net core (shown core) x)) (sym w.same)
       ∙ ap net.rest (step_is core w.core_is w.among.now w.there) ∙ (makes core w.core_is w.there w.among goes).rest
       ∙ passing.left_of (is_set (env core OutValid)) (is_set (env core OutReady)) (is_set (line core w.core_is Asks)) (env core OutData)
       ((wired.each core w.core_is w.there).asked ∙ ap (λ g. g && is_set (line core w.core_is Asks)) goes)
 
   -- the state of a core after its step
-  abbrev new_state : (core : ℕ) (c : Core) → Joined State → State
+  abbrev new_state : (core : ℕ) (c : Core) → NetworkCore State → State
   new_state core c j = record (next u c.machine c.code (at core j)) { rest = [] }
 
   state_is : (core : ℕ) (c : Core) (s : Among core c) → slice_get cores core ≡ Some c → goes_at core c ≡ true
       → (stepped net core (shown core) s.now).state ≡ new_state core c s.now
   state_is core c s there goes =
-      ap (λ (x : Joined State). x.state)
+      ap (λ (x : NetworkCore State). x.state)
       (stepped_goes net uses core s.now (shown core) (waits_not core s.now (among_goes core c there ∙ goes) s.there))
       ∙ ap (λ (t : State). record t { rest = [] }) (step_is core c s.now there)
 
@@ -140,7 +140,7 @@ module _ (u : Units) (cores : List Core) (feeds : List (Option ℕ)) (memories :
       at_once.some core s.now s.there
       ∙ ap (λ (x : Bool). Some (if x then stepped net core (shown core) s.now else s.now)) (among_goes core c there ∙ is)
 
-  abbrev put_of : Option (Joined State) → List ℕ
+  abbrev put_of : Option (NetworkCore State) → List ℕ
   put_of o = option_map_or (λ x. net.output x.state) o []
 
   -- a core has put out what its circuit puts out
@@ -171,7 +171,7 @@ module _ (u : Units) (cores : List Core) (feeds : List (Option ℕ)) (memories :
     by None none =
         let out : slice_get joined feeder ≡ None = stand.none feeder none in
         ap put_of (at_once.none feeder out)
-        ∙ sym (ap (λ (o : Option (Joined State)). put_of o ++ new_words (env core)) out
+        ∙ sym (ap (λ (o : Option (NetworkCore State)). put_of o ++ new_words (env core)) out
         ∙ ap (λ (t : Bool). if t then env core InData ∷ [] else [])
         (passing.not_taken u cores feeds memories k b i wired core (wired.no_core core feeder feeds_it none)))
     by (Some f) there =

@@ -5,7 +5,7 @@ use Rattle.std.specs.Option.{option_map_or}
 use Rattle.std.specs.List.{AllByRecursion}
 use Rattle.std.proofs.lemmas.Bool.{false≢true}
 use Rattle.tta_list.proofs.Lists.{all_one}
-use Rattle.tta_board.specs.Cited.{Units, State, Outcome, Running, Halted, Waiting, Fault, next, is_set, Hardware, is_halted, is_fault, is_waiting, HasStepped, Pin, Shows, Core, Network, Joined, after_step, cycles_given, IsCore, UsesQueues, seen, waiting_for}
+use Rattle.tta_board.specs.Cited.{Units, State, Outcome, Running, Halted, Waiting, Fault, next, is_set, Hardware, is_halted, is_fault, is_waiting, HasStepped, Pin, Shows, Core, Network, NetworkCore, after_step, cycles_given, IsCore, UsesQueues, seen, waiting_for}
 use Rattle.tta_hardware.specs.Signals.{Signal as Named}
 use Rattle.tta_hardware.proofs.Stepping.{one_clock}
 use Rattle.tta_hardware.proofs.Circuits.{is_settled, has_clocked, has_stored}
@@ -21,7 +21,7 @@ use Rattle.tta_hardware.proofs.Still.{stands_too}
 use Rattle.tta_board.proofs.Standing.{fault_goes}
 
 module _ (u : Units) (cores : List Core) (feeds : List (Option ℕ)) (memories : ℕ → List ℕ) (k : ℕ → ℕ) (came : ℕ → List ℕ) (b : Board)
-    (i : Inputs) (joined : List (Joined State)) (all : AllByRecursion IsCore cores) (wired : AreWired u cores feeds memories k b i)
+    (i : Inputs) (joined : List (NetworkCore State)) (all : AllByRecursion IsCore cores) (wired : AreWired u cores feeds memories k b i)
     (on : i.reset ≡ false) (stand : StandForCores u cores feeds memories k came b joined)
     (fine : AreFine u cores feeds memories k came joined) where
   abbrev net : Network State
@@ -45,17 +45,17 @@ module _ (u : Units) (cores : List Core) (feeds : List (Option ℕ)) (memories :
   abbrev held : ℕ → Core → Hardware
   held core c = core_after u cores feeds memories k b i core (Some c)
 
-  abbrev at : ℕ → Joined State → State
+  abbrev at : ℕ → NetworkCore State → State
   at core j = record j.state { rest = shown core }
 
   abbrev Among : ℕ → Core → Type 0
   Among core c = StandsAmong u cores feeds memories k b joined core c
 
-  pub step_is : (core : ℕ) (c : Core) (j : Joined State) → slice_get cores core ≡ Some c
+  pub step_is : (core : ℕ) (c : Core) (j : NetworkCore State) → slice_get cores core ≡ Some c
       → after_step net core (shown core) j ≡ next u c.machine c.code (at core j)
   step_is core c j there = ap (λ o. option_map_or (λ x. next u x.machine x.code (at core j)) o (at core j)) there
 
-  pub shows : (core : ℕ) (j : Joined State) → slice_get joined core ≡ Some j → Shows (k core) (env core) (waiting_for net joined core j)
+  pub shows : (core : ℕ) (j : NetworkCore State) → slice_get joined core ≡ Some j → Shows (k core) (env core) (waiting_for net joined core j)
   shows core j there =
       (queue_clocks u (k core) 32 (b.queues core) (waiting_for net joined core j) (i.queues core) (stand.queued core j there).inside
       (wired.reset core ∙ on)).0

@@ -4,7 +4,7 @@ use Rattle.std.specs.Prelude.{slice_get, if◌then◌else◌}
 use Rattle.std.specs.List.{AllByRecursion}
 use Rattle.std.proofs.lemmas.Bool.{ltb-true, ltb-false}
 use Rattle.std.proofs.lemmas.List.Sums.{fold-append}
-use Rattle.tta_board.specs.Cited.{Units, State, is_set, Puts, PutWord, is_fault, Core, Network, Joined, joined, after_step, turn, interleaved, output_of, cycles_given, first_states, cluster_given, IsCore, UsesQueues, HaveCome, waiting_for}
+use Rattle.tta_board.specs.Cited.{Units, State, is_set, Puts, PutWord, is_fault, Core, Network, NetworkCore, joined, after_step, turn, interleaved, output_of, cycles_given, first_states, cluster_given, IsCore, UsesQueues, HaveCome, waiting_for}
 use Rattle.tta_kahn.proofs.Clusters.{next_core, turn_here}
 use Rattle.tta_kahn.proofs.CoreQueues.{cores_use}
 use Rattle.tta_joint.proofs.AtOnce.{step_more, stepped_goes}
@@ -24,14 +24,14 @@ module _ (u : Units) (cores : List Core) (feeds : List (Option ℕ)) (given : �
   uses : UsesQueues net
   uses = cores_use u cores all feeds given
 
-  abbrev after : List ℕ → List (Joined State)
+  abbrev after : List ℕ → List (NetworkCore State)
   after steps = cluster_given u cores feeds given spaces steps
 
   -- the words that have come from outside by so many clocks
   abbrev came : ℕ → ℕ → List ℕ
   came t = came_by u cores feeds memories k powers i t
 
-  abbrev Stand : ℕ → List (Joined State) → Type 0
+  abbrev Stand : ℕ → List (NetworkCore State) → Type 0
   Stand t joined = StandForCores u cores feeds memories k (came t) (board_at u cores feeds memories k powers i t) joined
 
   -- more cycles after some
@@ -46,12 +46,12 @@ module _ (u : Units) (cores : List Core) (feeds : List (Option ℕ)) (given : �
 
     there_next : slice_get (after (steps ++ core ∷ [])) core ≡ Some (next_core net (after steps) core j)
     there_next =
-        ap (λ (cs : List (Joined State)). slice_get cs core) (more_steps steps (core ∷ [])) ∙ turn_here net (after steps) core j there
+        ap (λ (cs : List (NetworkCore State)). slice_get cs core) (more_steps steps (core ∷ [])) ∙ turn_here net (after steps) core j there
 
     by : (w : Bool) → net.waits next ≡ w → is_fault next.outcome ≡ false
     by true waits = wait_fine next.outcome waits
     by false goes =
-        sym (ap (λ (x : Joined State). is_fault x.state.outcome)
+        sym (ap (λ (x : NetworkCore State). is_fault x.state.outcome)
         (stepped_goes net uses core j (waiting_for net (after steps) core j) goes))
         ∙ never (steps ++ core ∷ []) core (next_core net (after steps) core j) there_next
 
@@ -107,7 +107,7 @@ module _ (u : Units) (cores : List Core) (feeds : List (Option ℕ)) (given : �
           put = λ core c there.
               ap (λ (ws : List ℕ). ws ++ (if is_set (lines u cores feeds memories k board (i t) core c Puts)
               then lines u cores feeds memories k board (i t) core c PutWord ∷ [] else [])) (before.1.put core c there)
-              ∙ sym (clock.puts core c there) ∙ ap (λ (cs : List (Joined State)). output_of net cs core) (sym same);
+              ∙ sym (clock.puts core c there) ∙ ap (λ (cs : List (NetworkCore State)). output_of net cs core) (sym same);
         },
       )
 

@@ -8,7 +8,7 @@ pub use Rattle.tta_code.specs.Legal.{IsLegalCode}
 pub use Rattle.tta_code.specs.Whole.{data_in}
 pub use Rattle.tta_kahn.specs.Cluster.{cluster_given, cycles, cycles_given, first_states, output_given}
 pub use Rattle.tta_kahn.specs.Laws.{IsCore, IsPair, Pair, core_in, core_memory, program_memory}
-pub use Rattle.tta_kahn.specs.Network.{AreComparable, Joined, Network, after_step, fed_to, feeder_of, interleaved, joined, no_input, output_of, stepped, turn}
+pub use Rattle.tta_kahn.specs.Network.{AreComparable, NetworkCore, Network, after_step, fed_to, feeder_of, interleaved, joined, no_input, output_of, stepped, turn}
 pub use Rattle.tta_kahn.specs.Programs.{IsGroupRest, group_output}
 pub use Rattle.tta_kahn.specs.Queues.{UsesQueues}
 pub use Rattle.tta_kahn.specs.declared.cores.Core.{Core}

@@ -1,15 +1,15 @@
 -- Circuits that are joined by queues do what a network of the machines does in some order of their cycles.
 use Rattle.std.specs.Prelude.{◌≡◌, ℕ, suc, ◌<◌, Bool, false, List, [], ◌∷◌, ◌++◌, map, Option, Some, None, length, slice_get, if◌then◌else◌}
 use Rattle.std.specs.List.{AllByRecursion}
-use Rattle.tta_board.specs.Cited.{IsPrefixOf, Units, State, is_set, Goes, Puts, PutWord, StandsFor, is_fault, is_waiting, Core, Joined, joined, output_of, after_step, interleaved, AreComparable, feeder_of, cycles, cycles_given, first_states, cluster_given, output_given, group_output, IsGroupRest, AreWords, IsCore, Pair, IsPair, core_in, core_memory, program_memory, is_among, HaveCome, come_with, waiting_for, AreQueued, InValid, InData}
+use Rattle.tta_board.specs.Cited.{IsPrefixOf, Units, State, is_set, Goes, Puts, PutWord, StandsFor, is_fault, is_waiting, Core, NetworkCore, joined, output_of, after_step, interleaved, AreComparable, feeder_of, cycles, cycles_given, first_states, cluster_given, output_given, group_output, IsGroupRest, AreWords, IsCore, Pair, IsPair, core_in, core_memory, program_memory, is_among, HaveCome, come_with, waiting_for, AreQueued, InValid, InData}
 use Rattle.tta_board.specs.Board.{Board, Inputs, Powers, lines, pins_of, AreWired, board_after, board_at, put_by, came_by, AreBoardClocks}
 
 module _ (u : Units) (cores : List Core) (feeds : List (Option ℕ)) (memories : ℕ → List ℕ) (k : ℕ → ℕ) where
   -- ---- what circuits stand for
 
   -- A core's circuit stands for its state, which neither waits nor is at a fault.
-  pub record StandsAmong (b : Board) (joined : List (Joined State)) (core : ℕ) (c : Core) : Type 0 where
-    pub now : Joined State
+  pub record StandsAmong (b : Board) (joined : List (NetworkCore State)) (core : ℕ) (c : Core) : Type 0 where
+    pub now : NetworkCore State
     pub there : slice_get joined core ≡ Some now
     pub stands : StandsFor c.machine c.code (b.cores core) now.state
     pub goes_on : is_waiting now.state.outcome ≡ false
@@ -17,7 +17,7 @@ module _ (u : Units) (cores : List Core) (feeds : List (Option ℕ)) (memories :
 
   -- The circuits stand for cores of a network, where these words have come from outside: each core's circuit for its state, and its queue
   -- holds exactly what the core's feeder has put out, or has come from outside for it, and the core has not taken.
-  pub record StandForCores (came : ℕ → List ℕ) (b : Board) (joined : List (Joined State)) : Type 0 where
+  pub record StandForCores (came : ℕ → List ℕ) (b : Board) (joined : List (NetworkCore State)) : Type 0 where
     pub each : (core : ℕ) (c : Core) → slice_get cores core ≡ Some c → StandsAmong b joined core c
     pub none : (core : ℕ) → slice_get cores core ≡ None → slice_get joined core ≡ None
     pub queued : AreQueued k b.queues (cycles_given u cores feeds came) joined
@@ -25,15 +25,15 @@ module _ (u : Units) (cores : List Core) (feeds : List (Option ℕ)) (memories :
   -- ---- one clock
 
   -- no core meets a fault in its next cycle on what is in its queue
-  abbrev pub AreFine : (came : ℕ → List ℕ) → List (Joined State) → Type 0
+  abbrev pub AreFine : (came : ℕ → List ℕ) → List (NetworkCore State) → Type 0
   AreFine came joined =
       let net = cycles_given u cores feeds came in
-      (core : ℕ) (j : Joined State) → slice_get joined core ≡ Some j
+      (core : ℕ) (j : NetworkCore State) → slice_get joined core ≡ Some j
       → is_fault (after_step net core (waiting_for net joined core j) j).outcome ≡ false
 
   -- What a clock comes to: some cores make a cycle, one after another, those that the clock lets carry an instruction out; and each has
   -- put out what its circuit puts out. What came from outside before is followed by what comes at the clock.
-  pub record HasClocked (given came : ℕ → List ℕ) (b : Board) (i : Inputs) (joined : List (Joined State)) : Type 0 where
+  pub record HasClocked (given came : ℕ → List ℕ) (b : Board) (i : Inputs) (joined : List (NetworkCore State)) : Type 0 where
     pub going : List ℕ
     pub exactly : (core : ℕ) (c : Core) → slice_get cores core ≡ Some c
         → is_among core going ≡ is_set (lines u cores feeds memories k b i core c Goes)
@@ -49,7 +49,7 @@ module _ (u : Units) (cores : List Core) (feeds : List (Option ℕ)) (memories :
 abbrev pub BoardClock : Type 0
 BoardClock =
     (u : Units) (cores : List Core) (feeds : List (Option ℕ)) (memories : ℕ → List ℕ) (k : ℕ → ℕ) (given came : ℕ → List ℕ) (b : Board)
-    (i : Inputs) (joined : List (Joined State)) → AllByRecursion IsCore cores → HaveCome (cycles_given u cores feeds given) came
+    (i : Inputs) (joined : List (NetworkCore State)) → AllByRecursion IsCore cores → HaveCome (cycles_given u cores feeds given) came
     → AreWired u cores feeds memories k b i → i.reset ≡ false → StandForCores u cores feeds memories k came b joined
     → AreFine u cores feeds memories k came joined → HasClocked u cores feeds memories k given came b i joined
 
@@ -74,7 +74,7 @@ BoardBegins =
 -- No core meets a fault in any order of cycles, where cores are given these words from outside.
 abbrev pub NeverFault : Units → List Core → (feeds : List (Option ℕ)) → (given : ℕ → List ℕ) → (spaces : List (List ℕ)) → Type 0
 NeverFault u cores feeds given spaces =
-    (steps : List ℕ) (core : ℕ) (j : Joined State) → slice_get (cluster_given u cores feeds given spaces steps) core ≡ Some j
+    (steps : List ℕ) (core : ℕ) (j : NetworkCore State) → slice_get (cluster_given u cores feeds given spaces steps) core ≡ Some j
     → is_fault j.state.outcome ≡ false
 
 -- What has come from outside by so many clocks begins what cores are given.

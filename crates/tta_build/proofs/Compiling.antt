@@ -2,7 +2,7 @@
 use Rattle.std.proofs.Common.{◌≡◌, ◌≤◌, Bool, true, false, List, None, Result, Ok, Err, refl, sym, ap, subst, ◌∙◌, length}
 use Rattle.std.specs.Prelude.{IfOk, if◌then◌else◌, nat_lt}
 use Rattle.std.proofs.lemmas.Result.{IfOk-at_ok}
-use Rattle.tta_build.specs.Cited.{Units, Machine, IsMachine, StandsOver, Choice, IsChoice, failed_rule, Program, IsProgram, Homes, AreAllotted, Code, IsLegalCode, Placed, selected, AreBlocks, total_length, IsLinked, IsCause, are_offered, is_direct}
+use Rattle.tta_build.specs.Cited.{Units, Machine, IsMachine, StandsOver, Choice, IsChoice, failed_rule, Program, IsProgram, Homes, SlotsAsScanned, Code, IsLegalCode, Placed, selected, AreBlocks, total_length, IsLinked, IsCause, are_offered, is_direct}
 use Rattle.tta_lower.specs.declared.error.LowerError.{LowerError}
 use Rattle.tta_lower.specs.declared.error.LowerError.TheVariants.{FrameFull, NoMemory}
 use Rattle.tta_build.specs.declared.error.BuildError.{BuildError}
@@ -30,7 +30,7 @@ use Rattle.tta_build.proofs.NoLonger.{chosen_no_longer, kept_no_longer, code_com
 module _ (u : Units) (m : Machine) (c : Choice) (p : Program) (machine : IsMachine m) (over : StandsOver u m) (choice : IsChoice m c)
     (program : IsProgram p) (offers : are_offered u m c p ≡ true) (known : Analysed) (is_known : IsAnalysed p known) where
   -- the placements are chosen for the lists that are selected with these homes
-  pub listed_chosen : (kept : Homes) (r : Listed) → AreAllotted p (length c.homes) kept → IsListedWith kept u m c p known r
+  pub listed_chosen : (kept : Homes) (r : Listed) → SlotsAsScanned p (length c.homes) kept → IsListedWith kept u m c p known r
       → AreChosenWith kept u m c p r.planned.placed.items
   listed_chosen kept r allotted is = record {
     lists = selected m c u r.code;
@@ -40,7 +40,7 @@ module _ (u : Units) (m : Machine) (c : Choice) (p : Program) (machine : IsMachi
   }
 
   -- there are few
-  pub few_placed : (kept : Homes) (r : Listed) → AreAllotted p (length c.homes) kept → IsListedWith kept u m c p known r
+  pub few_placed : (kept : Homes) (r : Listed) → SlotsAsScanned p (length c.homes) kept → IsListedWith kept u m c p known r
       → length r.planned.placed.items ≤ 16777216
   few_placed kept r allotted is =
       covered.few_placed u m c p machine over choice program offers kept r.planned.placed.items (listed_chosen kept r allotted is)

@@ -4,9 +4,9 @@ use Rattle.std.specs.Prelude.{slice_get, IfOk, IfErr}
 use Rattle.std.specs.Option.{option_map_or}
 use Rattle.std.specs.List.{list_all}
 use Rattle.std.proofs.lemmas.Bool.{and_from}
-use Rattle.tta_build.specs.Cited.{Units, Machine, IsMachine, StandsOver, Choice, IsChoice, failed_rule, homes_of, Program, IsProgram, frame_need, Rir, Homes, IsKnown, AreAllotted, lowered, parts, known_by, BlockList, Placed, is_list, selected, fits_block, AreBlocks, IsLinked, Code, IsLegalCode, IsPair, AreStandIns, raw, are_offered, is_direct, AreRespected, IsPlan}
+use Rattle.tta_build.specs.Cited.{Units, Machine, IsMachine, StandsOver, Choice, IsChoice, failed_rule, homes_of, Program, IsProgram, frame_need, Rir, Homes, IsKnown, SlotsAsScanned, lowered, parts, known_by, BlockList, Placed, is_list, selected, fits_block, AreBlocks, IsLinked, Code, IsLegalCode, IsPair, AreStandIns, raw, are_offered, is_direct, AreRespected, IsPlan}
 use Rattle.tta_lower.specs.Statement.{IsCodeOf as IsRegisterCode}
-use Rattle.tta_lower.specs.Known.{first_by}
+use Rattle.tta_lower.specs.LoweringInput.{first_by}
 use Rattle.tta_lower.proofs.SameHomes.{answers_know}
 use Rattle.tta_link.proofs.Whole.{linked_length}
 use Rattle.tta_compiler_laws.proofs.Composed.{fit, lists_mean, selected_stand, stand_for}
@@ -37,7 +37,7 @@ all_by test (x ∷ xs) (y ∷ ys) same each =
     (all_by test xs ys (omega arith) (λ k a b e f. each (suc k) a b e f))
 
 -- register code of a program by its blocks, its liveness and these homes
-abbrev pub lowered_with : (p : Program) (known : Analysed) (kept : Homes) (homes frame_words words : ℕ) (r : Rir) → IsAnalysed p known → AreAllotted p homes kept
+abbrev pub lowered_with : (p : Program) (known : Analysed) (kept : Homes) (homes frame_words words : ℕ) (r : Rir) → IsAnalysed p known → SlotsAsScanned p homes kept
     → words ≡ frame_words → IsRegisterCode p known.flow.blocks known.live kept words r → IsLowered p homes frame_words r
 lowered_with p known kept homes frame_words words r is allotted same code = record {
   blocks = known.flow.blocks;
@@ -95,7 +95,7 @@ module _ (u : Units) (m : Machine) (c : Choice) (p : Program) (machine : IsMachi
   }
 
   -- and they are selected with the homes of its variables
-  pub selected_with : (known : Analysed) (kept : Homes) (words : ℕ) (r : Rir) (lists : List BlockList) → IsAnalysed p known → AreAllotted p (length c.homes) kept
+  pub selected_with : (known : Analysed) (kept : Homes) (words : ℕ) (r : Rir) (lists : List BlockList) → IsAnalysed p known → SlotsAsScanned p (length c.homes) kept
       → words ≡ m.frame_words → IsRegisterCode p known.flow.blocks known.live kept words r → lists ≡ selected m c u r → AreSelectedWith kept u m c p lists
   unfolding selected_of
   selected_with known kept words r lists is allotted room code same = record {

@@ -2,7 +2,7 @@
 use Rattle.std.proofs.Common.{◌≡◌, ℕ, List, Result, Ok, Err, length, sym, subst}
 use Rattle.std.specs.Prelude.{IfOk}
 use Rattle.std.specs.declared.alloc.AllocError.{AllocError}
-use Rattle.tta_build.specs.Cited.{Units, Machine, Choice, Program, Homes, AreAllotted, Placed}
+use Rattle.tta_build.specs.Cited.{Units, Machine, Choice, Program, Homes, SlotsAsScanned, Placed}
 use Rattle.tta_build.specs.declared.register.RegisterOrder.{RegisterOrder}
 use Rattle.tta_build.specs.RegisterOrder.{AreGivenBy, AreHomesBy}
 use Rattle.tta_build.specs.Compiled.{AreChosenBy}
@@ -10,10 +10,10 @@ use Rattle.tta_build.specs.Parts.{AreChosenWith}
 
 -- homes for as many home registers as are chosen
 pub homes_by_len : (sharing : RegisterOrder) (p : Program) (c : Choice) (n : ℕ) → n ≡ length c.homes → (r : Result Homes AllocError)
-    → IfOk r (λ h. AreGivenBy sharing p n h) → IfOk r (λ h. AreAllotted p n h) → IfOk r (λ h. AreHomesBy sharing p c h)
+    → IfOk r (λ h. AreGivenBy sharing p n h) → IfOk r (λ h. SlotsAsScanned p n h) → IfOk r (λ h. AreHomesBy sharing p c h)
 homes_by_len sharing p c n same (Ok h) given allotted = record {
   given = subst (λ (k : ℕ). AreGivenBy sharing p k h) same given;
-  allotted = subst (λ (k : ℕ). AreAllotted p k h) same allotted;
+  allotted = subst (λ (k : ℕ). SlotsAsScanned p k h) same allotted;
 }
 homes_by_len sharing p c n same (Err e) given allotted = tt
 

@@ -1,6 +1,6 @@
 -- What the definitions and lemmas of this crate cite of other crates, passed on from one place. Declares nothing.
 pub use Rattle.tta_refines.specs.Agrees.{Agrees, AgreesAt, program_at}
-pub use Rattle.tta_alloc.specs.Allotted.{AreAllotted}
+pub use Rattle.tta_alloc.specs.Allotted.{SlotsAsScanned}
 pub use Rattle.tta_alloc.specs.Homes.{IsScan}
 pub use Rattle.tta_alloc.specs.Turns.{AreInTurn}
 pub use Rattle.tta_alloc.specs.declared.homes.Homes.{Homes}
@@ -37,7 +37,7 @@ pub use Rattle.tta_link.specs.Linked.{IsLinked}
 pub use Rattle.tta_list.specs.Laid.{Laid, over}
 pub use Rattle.tta_list.specs.Legs.{AllPairs}
 pub use Rattle.tta_list.specs.Prefix.{IsPrefixOf}
-pub use Rattle.tta_lower.specs.Known.{known_by}
+pub use Rattle.tta_lower.specs.LoweringInput.{known_by}
 pub use Rattle.tta_lower.specs.Law.{IsKnown}
 pub use Rattle.tta_lower.specs.Lower.{lowered, parts}
 pub use Rattle.tta_lower.specs.Statement.{IsCause}

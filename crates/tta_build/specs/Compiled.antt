@@ -1,6 +1,6 @@
 -- What is compiled of a pair: the placements of which its code consists, and how many words they take.
 use Rattle.std.specs.Prelude.{◌≡◌, ◌≤◌, true, false, ℕ, List, [], ◌∷◌, length}
-use Rattle.tta_build.specs.Cited.{Units, Machine, Choice, IsChoice, Program, frame_need, Block, Live, IsFlow, IsLive, Homes, AreAllotted, known_by, BlockList, Placed, total_length, raw, is_direct, list_of_direct, AreFirstFits}
+use Rattle.tta_build.specs.Cited.{Units, Machine, Choice, IsChoice, Program, frame_need, Block, Live, IsFlow, IsLive, Homes, SlotsAsScanned, known_by, BlockList, Placed, total_length, raw, is_direct, list_of_direct, AreFirstFits}
 use Rattle.tta_build.specs.declared.register.RegisterOrder.{RegisterOrder}
 use Rattle.tta_build.specs.RegisterOrder.{AreGivenBy}
 use Rattle.tta_build.specs.Candidates.{AreChosen}
@@ -15,7 +15,7 @@ pub record AreSelected (u : Units) (m : Machine) (c : Choice) (p : Program) (lis
   pub kept : Homes
   pub flow : IsFlow p blocks
   pub lives : IsLive p live
-  pub allotted : AreAllotted p (length c.homes) kept
+  pub allotted : SlotsAsScanned p (length c.homes) kept
   pub room : frame_need p ≤ m.frame_words
   pub are : lists ≡ raw u m c p (known_by p blocks live kept)
 

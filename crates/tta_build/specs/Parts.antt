@@ -1,6 +1,6 @@
 -- What the parts of `build` give one another.
 use Rattle.std.specs.Prelude.{◌≡◌, ◌<◌, ◌≤◌, ◌^◌, ℕ, List, [], ◌∷◌, length, Some, slice_get}
-use Rattle.tta_build.specs.Cited.{Units, Machine, Choice, over, Program, data_of, Rir, Block, Live, IsFlow, IsLive, Homes, AreAllotted, BlockList, Placed, total_length, Code, Datum, laid_by, IsLegalCode, Agrees, AreStandIns, list_of_direct, HasForms, AreFirstFits, room_on, AreRoomy, IsPacked, IsLength}
+use Rattle.tta_build.specs.Cited.{Units, Machine, Choice, over, Program, data_of, Rir, Block, Live, IsFlow, IsLive, Homes, SlotsAsScanned, BlockList, Placed, total_length, Code, Datum, laid_by, IsLegalCode, Agrees, AreStandIns, list_of_direct, HasForms, AreFirstFits, room_on, AreRoomy, IsPacked, IsLength}
 use Rattle.tta_lower.specs.Statement.{IsCodeOf}
 use Rattle.tta_build.specs.declared.error.BuildError.{BuildError}
 use Rattle.tta_build.specs.declared.error.BuildError.TheVariants.{CodeFull, NoMemory}
@@ -40,7 +40,7 @@ pub record IsLowered (p : Program) (homes frame_words : ℕ) (r : Rir) : Type 0 
   pub kept : Homes
   pub flow : IsFlow p blocks
   pub lives : IsLive p live
-  pub allotted : AreAllotted p homes kept
+  pub allotted : SlotsAsScanned p homes kept
   pub code : IsCodeOf p blocks live kept frame_words r
 
 -- The one list of a direct pair, where blocks, liveness and homes of the program are known.
@@ -50,7 +50,7 @@ pub record AreDirect (m : Machine) (p : Program) (lists : List BlockList) : Type
   pub kept : Homes
   pub flow : IsFlow p blocks
   pub lives : IsLive p live
-  pub allotted : AreAllotted p 0 kept
+  pub allotted : SlotsAsScanned p 0 kept
   pub are : lists ≡ list_of_direct m p ∷ []
 
 -- Code for a pair that is accepted: the machine can carry it out, it is packed and has no more words than the pair's room, it

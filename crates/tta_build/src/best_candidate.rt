@@ -214,7 +214,8 @@ pub fn plan_lists(
     on: &BuildTarget<'_>,
     selected: Vec<BlockList>,
 ) -> Result<Planned, AllocError>
-    requires lists { list_all (λ b. is_list on.now.joined.machine.now b.items) selected.items ≡ true }
+    requires lists { let m = on.now.joined.machine.now in
+        list_all (λ b. is_list m b.items) selected.items ≡ true }
     ensures { IfOk result (λ r. ArePlanned on.now.joined.machine.now selected.items r) }
 {
     let Placements { trails, placed } = placements_of(alloc, on, selected.as_slice())?;

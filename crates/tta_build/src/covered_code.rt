@@ -18,7 +18,7 @@ use crate::register::{Analysed, Lowered, analyse};
 use crate::value::{Assembled, Compiled};
 use std::alloc::Global;
 use tta_code::Code;
-use tta_connect::{BuildTarget, Choice, CoverError, Joined, cover};
+use tta_connect::{BuildTarget, Choice, CoverError, TargetMachine, cover};
 use tta_ops::UnitSet;
 use tta_program::Program;
 
@@ -74,7 +74,7 @@ fn assembled(
 /// What the compiler makes of a program that is no direct pair with the machine.
 pub fn compile_covered(
     alloc: Global,
-    on: &Joined<'_>,
+    on: &TargetMachine<'_>,
     p: &Program,
     units: &UnitSet,
 ) -> Result<Compiled, BuildError>

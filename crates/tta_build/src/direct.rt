@@ -18,7 +18,7 @@ use crate::register::{Lowered, lowered_in_turn};
 use crate::value::Compiled;
 use std::alloc::{AllocError, Global};
 use tta_arch::Machine;
-use tta_connect::Joined;
+use tta_connect::TargetMachine;
 use tta_lower::LowerError;
 use tta_program::Program;
 use tta_select::select_direct;
@@ -43,7 +43,7 @@ fn direct_lowered(alloc: Global, m: &Machine, p: &Program) -> Result<Lowered, Al
 /// The one list of a direct pair, and its placement. It fails only where there is no memory.
 fn direct_planned(
     alloc: Global,
-    on: &Joined<'_>,
+    on: &TargetMachine<'_>,
     p: &Program,
     lowered: &Lowered,
 ) -> Result<Planned, AllocError>
@@ -63,7 +63,11 @@ fn direct_planned(
 }
 
 /// What the compiler makes of a direct pair.
-pub fn compile_direct(alloc: Global, on: &Joined<'_>, p: &Program) -> Result<Compiled, BuildError>
+pub fn compile_direct(
+    alloc: Global,
+    on: &TargetMachine<'_>,
+    p: &Program,
+) -> Result<Compiled, BuildError>
     requires direct { is_direct on.now.machine.now p.now ≡ true }
     ensures value { let M = on.now.machine.now in
         IfOk result (λ r. IsDirectlyCompiled M p.now r) }

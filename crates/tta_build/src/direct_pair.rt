@@ -11,7 +11,7 @@ ghost use Rattle.tta_compiler_laws.specs.Direct.{constant_of, is_brought};
 ghost use Rattle.tta_compiler_laws.specs.Direct.{is_constant_or_halt, is_direct_proc, is_direct};
 
 use tta_arch::{Dest, Machine, Op, Source};
-use tta_connect::{Joined, anywhere};
+use tta_connect::{TargetMachine, anywhere};
 use tta_moves::{ItemSource, is_joined};
 use tta_program::{Proc, Program, Src, Step};
 
@@ -39,7 +39,7 @@ fn constant_of(step: &Step) -> Option<u32>
 }
 
 /// Whether some bus joins a word to the trigger port of the unit that offers `out`.
-fn brings(on: &Joined<'_>, word: u32) -> bool
+fn brings(on: &TargetMachine<'_>, word: u32) -> bool
     ensures { result ≡ brings on.now.machine.now word }
 {
     let src = ItemSource::Port(Source::Value(word));
@@ -47,7 +47,7 @@ fn brings(on: &Joined<'_>, word: u32) -> bool
 }
 
 /// Whether the constant of a step, if it outputs one, is brought to the output.
-fn is_brought(on: &Joined<'_>, step: &Step) -> bool
+fn is_brought(on: &TargetMachine<'_>, step: &Step) -> bool
     ensures { result ≡ is_brought on.now.machine.now step.now }
 {
     match constant_of(step) {
@@ -57,7 +57,7 @@ fn is_brought(on: &Joined<'_>, step: &Step) -> bool
 }
 
 /// Whether the constant of each step, if it outputs one, is brought to the output.
-fn are_brought(on: &Joined<'_>, steps: &[Step]) -> bool
+fn are_brought(on: &TargetMachine<'_>, steps: &[Step]) -> bool
     ensures { result ≡ list_all (is_brought on.now.machine.now) steps.now }
 {
     steps.iter().all(|step| is_brought(on, step))
@@ -91,14 +91,14 @@ fn only_constants(steps: &[Step]) -> bool
 }
 
 /// Whether a procedure only outputs constants that are brought to the output, and halts.
-fn is_direct_proc(on: &Joined<'_>, q: &Proc) -> bool
+fn is_direct_proc(on: &TargetMachine<'_>, q: &Proc) -> bool
     ensures { result ≡ is_direct_proc on.now.machine.now q.now }
 {
     only_constants(q.steps.as_slice()) && are_brought(on, q.steps.as_slice())
 }
 
 /// Whether each procedure does.
-fn are_direct_procs(on: &Joined<'_>, procs: &[Proc]) -> bool
+fn are_direct_procs(on: &TargetMachine<'_>, procs: &[Proc]) -> bool
     ensures { result ≡ list_all (is_direct_proc on.now.machine.now) procs.now }
 {
     procs.iter().all(|q| is_direct_proc(on, q))
@@ -108,7 +108,7 @@ fn are_direct_procs(on: &Joined<'_>, procs: &[Proc]) -> bool
 /// `end` only output constants and halt, and some bus joins each constant, as an immediate, to the
 /// trigger port of the unit that offers `out`. Constants to which no path comes are asked too. A
 /// program without constants is direct on every machine. It takes no memory.
-pub fn is_direct(on: &Joined<'_>, p: &Program) -> bool
+pub fn is_direct(on: &TargetMachine<'_>, p: &Program) -> bool
     ensures { result ≡ is_direct on.now.machine.now p.now }
 {
     p.procs.len() == 1 && are_direct_procs(on, p.procs.as_slice())

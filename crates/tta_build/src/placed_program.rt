@@ -5,11 +5,11 @@ ghost use Rattle.std.specs.Prelude.{IsTrue, IfOk, IfErr, IfSome};
 ghost use Rattle.std.specs.List.{sum_by};
 ghost use Rattle.tta_ops.specs.Set.{stated};
 ghost use Rattle.tta_arch.specs.Over.{StandsOver};
-ghost use Rattle.tta_link.specs.Blocks.{total_length};
+ghost use Rattle.tta_link.specs.Blocks.{most_blocks, total_length};
 ghost use Rattle.tta_program.specs.Program.{step_count};
 ghost use Rattle.tta_lower.specs.Statement.{IsCause};
 ghost use Rattle.tta_compiler_laws.specs.Needs.{are_offered};
-ghost use Rattle.tta_alloc.specs.Allotted.{AreAllotted};
+ghost use Rattle.tta_alloc.specs.Allotted.{SlotsAsScanned};
 ghost use Rattle.tta_build.specs.RegisterOrder.{AreHomesBy};
 ghost use Rattle.tta_build.specs.Lowered.{IsAnalysed};
 ghost use Rattle.tta_build.specs.Value.{IsListedWith, IsHomedBest};
@@ -98,10 +98,10 @@ fn homed_with(
     requires offered { let U = stated unit_meaning units.now in
         are_offered U on.now.joined.machine.now on.now.choice.now p.now ≡ true }
     requires known { IsAnalysed p.now known.now }
-    requires kept { AreAllotted p.now (length on.now.choice.now.homes) homes }
+    requires kept { SlotsAsScanned p.now (length on.now.choice.now.homes) homes }
     ensures homes { IfOk result (λ r. r.homes ≡ homes) }
-    ensures listed { let U = stated unit_meaning units.now in let C = on.now.choice.now in IfOk result
-        (λ r. IsListedWith homes U on.now.joined.machine.now C p.now known.now r.listed) }
+    ensures listed { let U = stated unit_meaning units.now in let C = on.now.choice.now in
+        IfOk result (λ r. IsListedWith homes U on.now.joined.machine.now C p.now known.now r.listed) }
     ensures cause { IfErr result (λ e. IsCause p.now on.now.joined.machine.now.frame_words e) }
 {
     let m = on.joined.machine;
@@ -117,7 +117,7 @@ fn homed_with(
 
 /// How many cycles placed blocks take, one after another.
 pub fn total_length(ps: &[Placed]) -> u64
-    requires { length ps.now ≤ 16777216 }
+    requires { length ps.now ≤ most_blocks }
     ensures { result ≡ total_length ps.now }
 {
     let mut total = 0;
@@ -152,8 +152,8 @@ pub fn is_small(p: &Program) -> bool
 
 /// The lists whose placements take fewer cycles, the first on a tie.
 fn shorter(first: Homed, other: Homed) -> Homed
-    requires first { length first.listed.planned.placed.items ≤ 16777216 }
-    requires other { length other.listed.planned.placed.items ≤ 16777216 }
+    requires first { length first.listed.planned.placed.items ≤ most_blocks }
+    requires other { length other.listed.planned.placed.items ≤ most_blocks }
     ensures { result ≡ (if nat_lt (total_length other.listed.planned.placed.items)
         (total_length first.listed.planned.placed.items) then other else first) }
 {

@@ -7,7 +7,7 @@ ghost use Rattle.tta_compiler_laws.specs.Linking.{AreFirstFits};
 ghost use Rattle.tta_compiler_laws.specs.Room.{AreRoomy};
 
 use std::alloc::{AllocError, Global};
-use tta_connect::Joined;
+use tta_connect::TargetMachine;
 use tta_moves::{BlockList, Placed};
 use tta_sched::Placer;
 
@@ -16,7 +16,7 @@ fn place_each(
     alloc: Global,
     placer: &mut Placer,
     lists: &[BlockList],
-    on: &Joined<'_>,
+    on: &TargetMachine<'_>,
 ) -> Result<Vec<Placed>, AllocError>
     requires lists { list_all (λ b. is_list on.now.machine.now b.items) lists.now ≡ true }
     ensures first { IfOk result (λ ps. AreFirstFits on.now.machine.now lists.now ps.items) }
@@ -34,7 +34,7 @@ fn place_each(
 pub fn place_all(
     alloc: Global,
     lists: &[BlockList],
-    on: &Joined<'_>,
+    on: &TargetMachine<'_>,
 ) -> Result<Vec<Placed>, AllocError>
     requires lists { list_all (λ b. is_list on.now.machine.now b.items) lists.now ≡ true }
     ensures first { IfOk result (λ ps. AreFirstFits on.now.machine.now lists.now ps.items) }

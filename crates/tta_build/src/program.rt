@@ -18,7 +18,7 @@ use crate::value::Compiled;
 use std::alloc::Global;
 use tta_arch::Machine;
 use tta_code::Whole;
-use tta_connect::{Joined, Net};
+use tta_connect::{Net, TargetMachine};
 use tta_ops::UnitSet;
 use tta_program::Program;
 
@@ -45,7 +45,7 @@ pub fn compile(
         IfErr result (λ e. HasCause U m.now p.now e) }
 {
     let net = Net::of(alloc, m)?;
-    let on = Joined {
+    let on = TargetMachine {
         machine: m,
         net: &net,
     };

@@ -3,7 +3,7 @@
 ghost use Rattle.std.specs.Prelude.{IfOk, IfErr};
 ghost use Rattle.tta_flow.specs.Blocks.{IsFlow};
 ghost use Rattle.tta_flow.specs.Live.{IsLive};
-ghost use Rattle.tta_alloc.specs.Allotted.{AreAllotted};
+ghost use Rattle.tta_alloc.specs.Allotted.{SlotsAsScanned};
 ghost use Rattle.tta_lower.specs.Statement.{IsCause};
 ghost use Rattle.tta_build.specs.Lowered.{IsAnalysed, IsLoweredAs};
 ghost use Rattle.tta_build.specs.RegisterOrder.{AreGivenBy};
@@ -54,7 +54,7 @@ pub fn homes_by(
     requires flow { IsFlow p.now flow.now.blocks }
     requires live { IsLive p.now live.now }
     ensures given { IfOk result (λ h. AreGivenBy sharing p.now homes h) }
-    ensures allotted { IfOk result (λ h. AreAllotted p.now homes h) }
+    ensures allotted { IfOk result (λ h. SlotsAsScanned p.now homes h) }
 {
     match sharing {
         RegisterOrder::LongestFree => in_turn(alloc, p, flow, live, homes),

@@ -60,7 +60,8 @@ impl Rounder {
     ) -> Result<Round, AllocError>
         requires list { is_list on.now.joined.machine.now list.now.items ≡ true }
         ensures round { IfOk result (λ r. IsRound on.now.joined.machine.now list.now r) }
-        ensures last { IfOk result (λ r. r.passed.lively ≡ optimised on.now.joined.machine.now list.now) }
+        ensures last { let m = on.now.joined.machine.now in
+            IfOk result (λ r. r.passed.lively ≡ optimised m list.now) }
     {
         let passed = self.passes.passed(alloc, list, &on.joined)?;
         Ok(Round {

@@ -105,7 +105,8 @@ impl Rounder {
         way: Way,
     ) -> Result<Option<Rounds>, AllocError>
         requires list { is_list on.now.joined.machine.now list.now.items ≡ true }
-        ensures { IfOk result (λ o. IfSome o (λ r. AreRounds on.now.joined.machine.now list.now r)) }
+        ensures { let m = on.now.joined.machine.now in
+            IfOk result (λ o. IfSome o (λ r. AreRounds m list.now r)) }
     {
         if !is_worth(list, most) {
             return Ok(None);
@@ -126,7 +127,8 @@ impl Rounder {
         way: Way,
     ) -> Result<Option<Rounds>, AllocError>
         requires list { is_list on.now.joined.machine.now list.now.items ≡ true }
-        ensures { IfOk result (λ o. IfSome o (λ r. AreRounds on.now.joined.machine.now list.now r)) }
+        ensures { let m = on.now.joined.machine.now in
+            IfOk result (λ o. IfSome o (λ r. AreRounds m list.now r)) }
     {
         if !is_worth(list, most) {
             return Ok(None);
@@ -151,7 +153,8 @@ impl Rounder {
         most: usize,
     ) -> Result<Option<Rounds>, AllocError>
         requires list { is_list on.now.joined.machine.now list.now.items ≡ true }
-        ensures { IfOk result (λ o. IfSome o (λ r. AreRounds on.now.joined.machine.now list.now r)) }
+        ensures { let m = on.now.joined.machine.now in
+            IfOk result (λ o. IfSome o (λ r. AreRounds m list.now r)) }
     {
         // The passes seldom leave out half of a list.
         if list.items.len() > most.saturating_mul(2) {

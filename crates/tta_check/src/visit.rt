@@ -40,7 +40,7 @@ pub enum Outcome {
 }
 
 /// Where walks go on that carry out an instruction one way, if they do.
-fn go_on(
+fn successor_of(
     alloc: Global,
     m: &Machine,
     i: &Instruction,
@@ -89,11 +89,11 @@ fn where_stays(
     ensures { IfOk result (λ o. IsStays m.now i.now at.now (option_map effect_of control) o) }
 {
     let Some(v) = control else {
-        return go_on(alloc, m, i, None, None, at);
+        return successor_of(alloc, m, i, None, None, at);
     };
     match v.guard {
         None => Ok(None),
-        Some(guard) => go_on(alloc, m, i, settled(Some(guard), false), None, at),
+        Some(guard) => successor_of(alloc, m, i, settled(Some(guard), false), None, at),
     }
 }
 
@@ -114,7 +114,7 @@ fn where_acts(
     let Some(v) = control else {
         return Ok(None);
     };
-    go_on(
+    successor_of(
         alloc,
         m,
         i,

@@ -88,8 +88,8 @@ impl<'a> Run for CodeRun<'a> {
     }
 
     #[inline(always)]
-    fn go_on(&mut self, units: &UnitSet, most: u64) -> u64 {
-        self.sim.go_on(self.machine, self.code, units, most)
+    fn run_silent(&mut self, units: &UnitSet, most: u64) -> u64 {
+        self.sim.run_silent(self.machine, self.code, units, most)
     }
 
     fn ended(&self) -> Ended {

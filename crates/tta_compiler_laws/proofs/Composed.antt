@@ -4,7 +4,7 @@ use Rattle.std.specs.Prelude.{nat_lt}
 use Rattle.std.specs.List.{list_all, AllByRecursion}
 use Rattle.std.proofs.lemmas.Bool.{and_parts}
 use Rattle.std.proofs.lemmas.Bool.Decides.{nat_tests}
-use Rattle.tta_compiler_laws.specs.Cited.{Units, Machine, Choice, DataLine, Program, datum_of, is_datum, Outcome, BlockList, AllPairs, AreAddresses, lrun, StandsFor, Part, RBlock, Rir, Known, parts, block_of, lowered, is_closed_block, is_running, rrun, IsRegisterCode, fits_block, word_block, as_legs, IsFit, IsGiven, MeanAt, IsKnown}
+use Rattle.tta_compiler_laws.specs.Cited.{Units, Machine, Choice, DataLine, Program, datum_of, is_datum, Outcome, BlockList, AllPairs, AreAddresses, lrun, StandsFor, Part, RBlock, Rir, LoweringInput, parts, block_of, lowered, is_closed_block, is_running, rrun, IsRegisterCode, fits_block, word_block, as_legs, IsFit, IsGiven, MeanAt, IsKnown}
 use Rattle.tta_program.specs.Sequential as program
 use Rattle.tta_list.specs.Legs as legs
 use Rattle.tta_optim.proofs.RunsKept.{keeps_runs}
@@ -98,7 +98,7 @@ module _ (u : Units) (m : Machine) (p : Program) (r : Rir) (lists : List BlockLi
 
 -- ---- all together
 
-module _ (u : Units) (m : Machine) (c : Choice) (p : Program) (known : Known)
+module _ (u : Units) (m : Machine) (c : Choice) (p : Program) (known : LoweringInput)
     (pair : IsPair u m c p) (is_known : IsKnown p (length c.homes) known) where
   abbrev pub code : Rir
   code = lowered p known (length c.homes)

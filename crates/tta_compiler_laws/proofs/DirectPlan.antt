@@ -4,7 +4,7 @@ use Rattle.std.specs.Prelude.{◌==◌, option_map}
 use Rattle.std.proofs.lemmas.Bool.Decides.{nat_tests}
 use Rattle.std.proofs.lemmas.List.{length-map}
 use Rattle.std.proofs.lemmas.Option.{slice_get-map}
-use Rattle.tta_compiler_laws.specs.Cited.{Units, Op, Machine, IsMachine, Choice, Call, Proc, Program, IsProgram, puts, RBlock, Rir, asks, one_block, Block, Live, IsFlow, IsLive, Homes, AreAllotted, Part, asks_part, IsRegisterCode, parts, block_of, first_by, known_by, Item, BlockList, none_after, is_bypassable, is_redundant, is_lively, targets, is_start_of, is_need, home_pair, out_of, constants_out}
+use Rattle.tta_compiler_laws.specs.Cited.{Units, Op, Machine, IsMachine, Choice, Call, Proc, Program, IsProgram, puts, RBlock, Rir, asks, one_block, Block, Live, IsFlow, IsLive, Homes, SlotsAsScanned, Part, asks_part, IsRegisterCode, parts, block_of, first_by, known_by, Item, BlockList, none_after, is_bypassable, is_redundant, is_lively, targets, is_start_of, is_need, home_pair, out_of, constants_out}
 use Rattle.tta_lower.proofs.Lowering.{lowers_well}
 use Rattle.tta_lower.proofs.SameHomes.{answers_know}
 use Rattle.tta_select.proofs.OutputJoins.{CanOutput, can}
@@ -47,7 +47,7 @@ module _ (u : Units) (m : Machine) (p : Program) (machine : IsMachine m) (progra
       let a = is_alone m p program direct in
       subst (CanOutput m (out_of m)) (sym a.constants) (can m machine (puts (a.proc).steps) a.brought.all)
 
-  module _ (h : Homes) (allotted : AreAllotted p (length (homes_on m)) h) where
+  module _ (h : Homes) (allotted : SlotsAsScanned p (length (homes_on m)) h) where
     abbrev count : ℕ
     count = length (homes_on m)
 
@@ -104,16 +104,16 @@ module _ (u : Units) (m : Machine) (p : Program) (machine : IsMachine m) (progra
     lively = lively m (out_of m) words;
   })
 
-  allotted_on : (h : Homes) → AreAllotted p 0 h → (k : Homes) × AreAllotted p (length (homes_on m)) k
+  allotted_on : (h : Homes) → SlotsAsScanned p 0 h → (k : Homes) × SlotsAsScanned p (length (homes_on m)) k
   allotted_on h allotted =
       let a = is_alone m p program direct in
-      subst (λ (r : Program). IsProgram r → AreAllotted r 0 h → (k : Homes) × AreAllotted r (length (homes_on m)) k) (sym a.is)
+      subst (λ (r : Program). IsProgram r → SlotsAsScanned r 0 h → (k : Homes) × SlotsAsScanned r (length (homes_on m)) k) (sym a.is)
       (λ rules is. any_allotted a.proc p.init (no_params a.proc rules.main) a.only h (length (homes_on m)) is) program allotted where
         no_params : (q : Proc) → (q.params == 0) ≡ true → q.params ≡ 0
         no_params q e = grind (arith, nat_tests, e)
 
   -- the list is planned for the program
-  pub direct_plan : (h : Homes) → AreAllotted p 0 h → IsPlan u m p (list_of_direct m p ∷ [])
+  pub direct_plan : (h : Homes) → SlotsAsScanned p 0 h → IsPlan u m p (list_of_direct m p ∷ [])
   direct_plan h allotted =
       let k = allotted_on h allotted in record {
         choice = choice;

@@ -1,6 +1,6 @@
 -- A direct pair: its list, and what the code of its list does.
 use Rattle.std.proofs.Common.{◌≡◌, ℕ, zero, suc, true, List, [], ◌∷◌, Some, refl, sym, subst, arith, length, slice_get}
-use Rattle.tta_compiler_laws.specs.Cited.{Machine, Proc, DataLine, Program, IsProgram, only_constants, puts, alone, one_block, Block, Live, IsFlow, IsLive, Homes, AreAllotted, lowered, IsKnown, known_by, BlockList, Placed, control_is_last, is_list, out_of, constants_out, IsBlock}
+use Rattle.tta_compiler_laws.specs.Cited.{Machine, Proc, DataLine, Program, IsProgram, only_constants, puts, alone, one_block, Block, Live, IsFlow, IsLive, Homes, SlotsAsScanned, lowered, IsKnown, known_by, BlockList, Placed, control_is_last, is_list, out_of, constants_out, IsBlock}
 use Rattle.tta_lower.specs.Keeps as lower
 use Rattle.tta_lower.proofs.Lowering.{lowers_well}
 use Rattle.tta_lower.proofs.OneBlock.{one-block}
@@ -17,7 +17,7 @@ use Rattle.tta_compiler_laws.proofs.Pairs.{IsAlone, is_alone}
 
 -- ---- the register code
 
-lowers_alone : (q : Proc) (init : List DataLine) → only_constants q.steps ≡ true → IsProgram (alone q init) → (homes : ℕ) (blocks : List Block) (l : Live) (h : Homes) → IsFlow (alone q init) blocks → IsLive (alone q init) l → AreAllotted (alone q init) homes h
+lowers_alone : (q : Proc) (init : List DataLine) → only_constants q.steps ≡ true → IsProgram (alone q init) → (homes : ℕ) (blocks : List Block) (l : Live) (h : Homes) → IsFlow (alone q init) blocks → IsLive (alone q init) l → SlotsAsScanned (alone q init) homes h
     → lowered (alone q init) (known_by (alone q init) blocks l h) homes ≡ record { blocks = one_block (puts q.steps) ∷ [] }
 lowers_alone q init only rules homes blocks l h flow live allotted =
     one-block q init only (known_by (alone q init) blocks l h) homes (are_blocks (alone q init) rules blocks flow)
@@ -26,7 +26,7 @@ lowers_alone q init only rules homes blocks l h flow live allotted =
 pub direct_lowers : DirectLowers
 direct_lowers m p rules direct homes blocks l h flow live allotted =
     let a = is_alone m p rules direct in
-    subst (λ (r : Program). IsFlow r blocks → IsLive r l → AreAllotted r homes h → lowered r (known_by r blocks l h) homes ≡ record { blocks = one_block (constants_of r) ∷ [] }) (sym a.is)
+    subst (λ (r : Program). IsFlow r blocks → IsLive r l → SlotsAsScanned r homes h → lowered r (known_by r blocks l h) homes ≡ record { blocks = one_block (constants_of r) ∷ [] }) (sym a.is)
     (λ flow live allotted. lowers_alone a.proc p.init a.only (subst IsProgram a.is rules) homes blocks l h flow live allotted) flow live allotted
 
 -- ---- the list

@@ -6,7 +6,7 @@ use Rattle.std.proofs.lemmas.Bool.{and_parts}
 use Rattle.std.proofs.lemmas.Bool.Decides.{nat_tests}
 use Rattle.std.proofs.lemmas.List.{length-map}
 use Rattle.std.proofs.lemmas.Option.{slice_get_within, slice_get-get_or}
-use Rattle.tta_compiler_laws.specs.Cited.{Units, Machine, Choice, Program, BlockList, Item, Move, Long, Port, Address, PlacedItem, Placed, source_of, is_list, has_slot, control_is_last, Respects, Part, Known, parts, block_of, is_closed, ArePlaced, is_within, IsBlock, AreBlocks, IsKnown}
+use Rattle.tta_compiler_laws.specs.Cited.{Units, Machine, Choice, Program, BlockList, Item, Move, Long, Port, Address, PlacedItem, Placed, source_of, is_list, has_slot, control_is_last, Respects, Part, LoweringInput, parts, block_of, is_closed, ArePlaced, is_within, IsBlock, AreBlocks, IsKnown}
 use Rattle.tta_moves.specs.declared.items.LongValue.TheVariants as long
 use Rattle.tta_sched_laws.proofs.Items.{idle_item, timed, nth_timed, length_timed}
 use Rattle.tta_sched_laws.proofs.Total.{Timed}
@@ -62,7 +62,7 @@ control_last m items e = (and_parts (nat_le (length items) 16777216 && list_all 
 
 -- ---- all blocks
 
-module _ (u : Units) (m : Machine) (c : Choice) (p : Program) (known : Known)
+module _ (u : Units) (m : Machine) (c : Choice) (p : Program) (known : LoweringInput)
     (pair : IsPair u m c p) (is_known : IsKnown p (length c.homes) known) (lists : List BlockList)
     (stand : AreStandIns m (raw u m c p known) lists) where
   plan : ArePlanned u m c p known lists

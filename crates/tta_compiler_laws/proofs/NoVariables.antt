@@ -1,6 +1,6 @@
 -- A program of constants has no interval of any variable, so its homes are the same for any number of home registers.
 use Rattle.std.proofs.Common.{◌≡◌, ◌<◌, ◌⊎◌, inl, inr, ℕ, zero, suc, Bool, true, false, List, [], ◌∷◌, Some, refl, sym, ap, ◌∙◌, arith, slice_get}
-use Rattle.tta_compiler_laws.specs.Cited.{Var, Step, End, Proc, DataLine, only_constants, alone, reads_at, assigns_at, LiveBefore, ReadHere, ReadLater, Interval, Home, Slot, Homes, Counts, IsParam, IsLiveAtEntry, IsRead, IsAssigned, IsLiveBefore, IsLiveAfter, AreTaken, scan, count_of, home_of, AreAllotted, AreAllottedOf}
+use Rattle.tta_compiler_laws.specs.Cited.{Var, Step, End, Proc, DataLine, only_constants, alone, reads_at, assigns_at, LiveBefore, ReadHere, ReadLater, Interval, Home, Slot, Homes, Counts, IsParam, IsLiveAtEntry, IsRead, IsAssigned, IsLiveBefore, IsLiveAfter, AreTaken, scan, count_of, home_of, SlotsAsScanned, AreAllottedOf}
 use Rattle.tta_program.specs.declared.operand.Src.TheVariants.{Word}
 use Rattle.tta_program.specs.declared.step.Step.TheVariants.{Put, Halt}
 use Rattle.tta_alloc.specs.declared.home.Home.TheVariants.{Reg}
@@ -77,8 +77,8 @@ any_homes q params only answer homes is = record {
   range (inr k) = let l = k.1.0 in absurd (omega arith)
 
 -- so the homes are right for any number of home registers
-allotted_alone : (q : Proc) (init : List DataLine) → q.params ≡ 0 → only_constants q.steps ≡ true → (h : Homes) (homes : ℕ) → AreAllotted (alone q init) 0 h
-    → AreAllotted (alone q init) homes (record h { count = homes })
+allotted_alone : (q : Proc) (init : List DataLine) → q.params ≡ 0 → only_constants q.steps ≡ true → (h : Homes) (homes : ℕ) → SlotsAsScanned (alone q init) 0 h
+    → SlotsAsScanned (alone q init) homes (record h { count = homes })
 unfolding count_of home_of
 allotted_alone q init params only h homes is = record {
   count = refl;
@@ -94,6 +94,6 @@ allotted_alone q init params only h homes is = record {
       (s.0, (any_homes r still puts s.0 homes s.1.0, s.1.1))
   of (suc owner) r e s = absurd cc
 
-pub any_allotted : (q : Proc) (init : List DataLine) → q.params ≡ 0 → only_constants q.steps ≡ true → (h : Homes) (homes : ℕ) → AreAllotted (alone q init) 0 h
-    → (k : Homes) × AreAllotted (alone q init) homes k
+pub any_allotted : (q : Proc) (init : List DataLine) → q.params ≡ 0 → only_constants q.steps ≡ true → (h : Homes) (homes : ℕ) → SlotsAsScanned (alone q init) 0 h
+    → (k : Homes) × SlotsAsScanned (alone q init) homes k
 any_allotted q init params only h homes is = (record h { count = homes }, allotted_alone q init params only h homes is)

@@ -4,13 +4,13 @@ use Rattle.std.specs.Prelude.{if◌then◌else◌, ◌==◌}
 use Rattle.std.specs.Option.{option_map_or}
 use Rattle.std.specs.List.{list_all}
 use Rattle.tta_list.proofs.Lists.{list_all_one, and_both as both}
-use Rattle.tta_compiler_laws.specs.Cited.{Units, Machine, Choice, Src, Step, Return, End, Proc, Program, step_at, RSrc, RStep, Known, Part, Entry, Steps, Returned, block_of, number_of, entry_number, vars_of, place, steps_for, passes, gives, code_from, exit_for, keeps_ra, sets, sets_from, back, op_of_step, op_of_exit, is_offered}
+use Rattle.tta_compiler_laws.specs.Cited.{Units, Machine, Choice, Src, Step, Return, End, Proc, Program, step_at, RSrc, RStep, LoweringInput, Part, Entry, Steps, Returned, block_of, number_of, entry_number, vars_of, place, steps_for, passes, gives, code_from, exit_for, keeps_ra, sets, sets_from, back, op_of_step, op_of_exit, is_offered}
 use Rattle.tta_program.specs.declared.step.Step.TheVariants.{Copy, Apply, Load, Take, Store, Put, If, Goto, When, Invoke, Halt}
 use Rattle.tta_lir.specs.declared.code.RStep.TheVariants as rstep
 use Rattle.tta_lir.specs.declared.code.Exit.TheVariants as exit
 use Rattle.tta_compiler_laws.specs.Needs.{need_of, are_offered}
 
-module _ (u : Units) (m : Machine) (c : Choice) (p : Program) (known : Known) where
+module _ (u : Units) (m : Machine) (c : Choice) (p : Program) (known : LoweringInput) where
   -- a step of register code that needs only what is offered
   abbrev pub offers : RStep → Bool
   offers r = is_offered m c (op_of_step u r)

@@ -5,7 +5,7 @@ use Rattle.std.specs.Option.{option_map_or}
 use Rattle.std.specs.List.{sum_by}
 use Rattle.std.proofs.lemmas.Bool.Decides.{nat_tests}
 use Rattle.std.proofs.lemmas.List.Sums.{sum_by-cons}
-use Rattle.tta_compiler_laws.specs.Cited.{Units, Src, Var, Step, Return, End, Proc, Program, step_at, Need, Home, Slot, Homes, home_of, AreAllotted, params_of, vars_of, Part, Entry, Steps, Returned, home_by, reg_of, in_slot, slot_src, traffic_step, over_steps, over_live, fetched, traffic, asks_step, asks_part, assigns_step, assigns_part}
+use Rattle.tta_compiler_laws.specs.Cited.{Units, Src, Var, Step, Return, End, Proc, Program, step_at, Need, Home, Slot, Homes, home_of, SlotsAsScanned, params_of, vars_of, Part, Entry, Steps, Returned, home_by, reg_of, in_slot, slot_src, traffic_step, over_steps, over_live, fetched, traffic, asks_step, asks_part, assigns_step, assigns_part}
 use Rattle.tta_program.specs.declared.operand.Src.TheVariants.{Word}
 use Rattle.tta_program.specs.declared.step.Step.TheVariants.{Copy, Apply, Load, Take, Store, Put, If, Goto, When, Invoke, Halt}
 use Rattle.tta_alloc.specs.declared.home.Home.TheVariants.{Reg}
@@ -90,7 +90,7 @@ same_none x a b (inr k) (inl t) both = ap (λ h. is_none (reg_of h)) (both.1 t �
 same_none x a b (inr k) (inr j) both = ap (λ h. is_none (reg_of h)) k.1 ∙ sym (ap (λ h. is_none (reg_of h)) j.1)
 
 -- what a home can be
-can_be : (p : Program) (homes : ℕ) (h : Homes) (owner x : ℕ) (q : Proc) → AreAllotted p homes h → slice_get p.procs owner ≡ Some q → x < q.vars
+can_be : (p : Program) (homes : ℕ) (h : Homes) (owner x : ℕ) (q : Proc) → SlotsAsScanned p homes h → slice_get p.procs owner ≡ Some q → x < q.vars
     → (home_of h owner x ≡ Slot x) ⊎ ((k : ℕ) × (home_of h owner x ≡ Reg k))
 can_be p homes h owner x q is there small =
     let s = is.allotted owner q there in
@@ -99,7 +99,7 @@ can_be p homes h owner x q is there small =
       | inr k ↦ inr (k.0, k.1.1)
     ]
 
-same_regs : (p : Program) (homes : ℕ) (h other : Homes) → AreAllotted p homes h → AreAllotted p homes other → (owner x : ℕ)
+same_regs : (p : Program) (homes : ℕ) (h other : Homes) → SlotsAsScanned p homes h → SlotsAsScanned p homes other → (owner x : ℕ)
     → is_none (home_by p h owner x) ≡ is_none (home_by p other owner x)
 same_regs p homes h other is as_well owner x = on (slice_get p.procs owner) refl where
   on : (o : Option Proc) → slice_get p.procs owner ≡ o → is_none (home_by p h owner x) ≡ is_none (home_by p other owner x)

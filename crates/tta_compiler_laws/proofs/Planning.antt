@@ -6,7 +6,7 @@ use Rattle.std.proofs.lemmas.Bool.{and_parts, or_cases}
 use Rattle.std.proofs.lemmas.Bool.Decides.{nat_tests}
 use Rattle.std.proofs.lemmas.List.{length-map}
 use Rattle.std.proofs.lemmas.Option.{slice_get-map}
-use Rattle.tta_compiler_laws.specs.Cited.{Units, Op, Machine, is_frame_op, Target, Choice, hub_of, Program, BlockList, Item, ItemSource, Port, Address, source_of, is_straight, AllPairs, Aim, aim_of, is_scratch, is_address, AsksNoMore, Part, RBlock, asks_part, Known, parts, block_of, list_of, names, assigns_block, targets, is_start_of, is_frame_trigger, is_home, is_need, is_closed, IsListFor, TriggersNoMore, IsSelection, IsKnown, IsEquivalent}
+use Rattle.tta_compiler_laws.specs.Cited.{Units, Op, Machine, is_frame_op, Target, Choice, hub_of, Program, BlockList, Item, ItemSource, Port, Address, source_of, is_straight, AllPairs, Aim, aim_of, is_scratch, is_address, AsksNoMore, Part, RBlock, asks_part, LoweringInput, parts, block_of, list_of, names, assigns_block, targets, is_start_of, is_frame_trigger, is_home, is_need, is_closed, IsListFor, TriggersNoMore, IsSelection, IsKnown, IsEquivalent}
 use Rattle.tta_list.proofs.Lists.{list_all_one}
 use Rattle.tta_optim.specs.Kept as kept
 use Rattle.tta_select.proofs.Selecting.{selects}
@@ -71,7 +71,7 @@ asks_less m items others n p test same apart =
 
 -- ---- all lists
 
-module _ (u : Units) (m : Machine) (c : Choice) (p : Program) (known : Known)
+module _ (u : Units) (m : Machine) (c : Choice) (p : Program) (known : LoweringInput)
     (pair : IsPair u m c p) (is_known : IsKnown p (length c.homes) known) (lists : List BlockList)
     (stand : AreStandIns m (raw u m c p known) lists) where
   abbrev block : Part → RBlock

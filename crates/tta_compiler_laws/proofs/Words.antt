@@ -4,7 +4,7 @@ use Rattle.std.specs.Prelude.{if◌then◌else◌, ◌==◌, ◌&&◌, nat_lt, i
 use Rattle.std.specs.Option.{option_map_or}
 use Rattle.std.specs.List.{list_all}
 use Rattle.std.proofs.lemmas.Bool.{and_parts}
-use Rattle.tta_compiler_laws.specs.Cited.{Src, Var, Step, Return, End, Proc, Program, IsProgram, is_src, is_step, is_call, step_at, Part, Entry, Steps, Returned, RSrc, Known, block_of, number_of, entry_number, vars_of, params_of, value_slot, var_slot, place, source, steps_for, passes, gives, code_from, exit_for, keeps_ra, sets, first_value, sets_from, back, word_src, word_step, word_exit}
+use Rattle.tta_compiler_laws.specs.Cited.{Src, Var, Step, Return, End, Proc, Program, IsProgram, is_src, is_step, is_call, step_at, Part, Entry, Steps, Returned, RSrc, LoweringInput, block_of, number_of, entry_number, vars_of, params_of, value_slot, var_slot, place, source, steps_for, passes, gives, code_from, exit_for, keeps_ra, sets, first_value, sets_from, back, word_src, word_step, word_exit}
 use Rattle.tta_program.specs.declared.operand.Src.TheVariants.{Word}
 use Rattle.tta_program.specs.declared.step.Step.TheVariants.{Copy, Apply, Load, Take, Store, Put, If, Goto, When, Invoke, Halt}
 use Rattle.tta_lir.specs.declared.code.RSrc.TheVariants as rsrc
@@ -14,7 +14,7 @@ use Rattle.tta_lir.specs.declared.code.Place.TheVariants as place_of
 use Rattle.tta_lower.proofs.Steps.{step_of}
 use Rattle.tta_list.proofs.Lists.{and_both as both}
 
-module _ (p : Program) (known : Known) where
+module _ (p : Program) (known : LoweringInput) where
   word_of : (owner vars : ℕ) (s : Src) → is_src vars s ≡ true → word_src (source p known.home owner s) ≡ true
   word_of owner vars (Var x) e = refl
   word_of owner vars (Word w) e = e

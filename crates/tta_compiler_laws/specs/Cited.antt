@@ -1,6 +1,6 @@
 -- What the definitions and lemmas of this crate cite of other crates, passed on from one place. Declares nothing.
 pub use Rattle.tta_refines.specs.Agrees.{Agrees}
-pub use Rattle.tta_alloc.specs.Allotted.{AreAllotted, AreAllottedOf}
+pub use Rattle.tta_alloc.specs.Allotted.{SlotsAsScanned, AreAllottedOf}
 unfoldable pub use Rattle.tta_alloc.specs.Homes.{count_of, home_of}
 pub use Rattle.tta_alloc.specs.Intervals.{AreTaken, Counts, IsAssigned, IsBefore, IsLiveAfter, IsLiveAtEntry, IsLiveBefore, IsParam, IsRead}
 pub use Rattle.tta_alloc.specs.Scan.{scan}
@@ -33,10 +33,10 @@ pub use Rattle.tta_link.specs.Linked.{IsLinked}
 pub use Rattle.tta_list.specs.Laid.{over}
 pub use Rattle.tta_list.specs.Legs.{AllPairs}
 pub use Rattle.tta_lower.specs.Counts.{asks_part, asks_step, assigns_part, assigns_step, fetched, in_slot, over_live, over_steps, slot_src, traffic, traffic_step}
-pub use Rattle.tta_lower.specs.Known.{first_by, home_by, known_by, reg_of}
+pub use Rattle.tta_lower.specs.LoweringInput.{first_by, home_by, known_by, reg_of}
 pub use Rattle.tta_lower.specs.Law.{IsKnown, IsRegisterCode}
 pub use Rattle.tta_lower.specs.Layout.{back, code_from, exit_for, first_value, gives, keeps_ra, params_of, passes, place, sets, sets_from, source, steps_for, value_slot, var_slot, vars_of}
-pub use Rattle.tta_lower.specs.Liveness.{Known}
+pub use Rattle.tta_lower.specs.Liveness.{LoweringInput}
 pub use Rattle.tta_lower.specs.Lower.{block_of, entry_number, lowered, number_of, parts}
 pub use Rattle.tta_lower.specs.declared.part.Part.{Part}
 pub use Rattle.tta_lower.specs.declared.part.Part.TheVariants.{Entry, Returned, Steps}

@@ -2,7 +2,7 @@
 use Rattle.std.specs.Prelude.{◌≡◌, ℕ, ◌==◌, Bool, true, false, ◌&&◌, List, [], ◌∷◌, length, Option, Some, None, slice_get}
 use Rattle.std.specs.Option.{option_map_or}
 use Rattle.std.specs.List.{list_all}
-use Rattle.tta_compiler_laws.specs.Cited.{Units, Machine, IsMachine, Step, Proc, over, Program, data_of, IsProgram, only_constants, puts, one_block, IsLegalCode, Whole, data_in, Agrees, Placed, BlockList, is_list, Block, Live, IsFlow, IsLive, Homes, AreAllotted, lowered, known_by, out_of, brings, direct_list, IsLinked, AreBlocks, Means}
+use Rattle.tta_compiler_laws.specs.Cited.{Units, Machine, IsMachine, Step, Proc, over, Program, data_of, IsProgram, only_constants, puts, one_block, IsLegalCode, Whole, data_in, Agrees, Placed, BlockList, is_list, Block, Live, IsFlow, IsLive, Homes, SlotsAsScanned, lowered, known_by, out_of, brings, direct_list, IsLinked, AreBlocks, Means}
 use Rattle.tta_program.specs.declared.operand.Src.TheVariants.{Word}
 use Rattle.tta_program.specs.declared.step.Step.TheVariants.{Put, Halt}
 use Rattle.tta_compiler_laws.specs.Linking.{AreRespected}
@@ -48,7 +48,7 @@ list_of_direct m p = direct_list (out_of m) (constants_of p)
 -- the register code of such a program is one block that outputs the constants and halts
 abbrev pub DirectLowers : Type 0
 DirectLowers =
-    (m : Machine) (p : Program) → IsProgram p → is_direct m p ≡ true → (homes : ℕ) (blocks : List Block) (l : Live) (h : Homes) → IsFlow p blocks → IsLive p l → AreAllotted p homes h
+    (m : Machine) (p : Program) → IsProgram p → is_direct m p ≡ true → (homes : ℕ) (blocks : List Block) (l : Live) (h : Homes) → IsFlow p blocks → IsLive p l → SlotsAsScanned p homes h
     → lowered p (known_by p blocks l h) homes ≡ record { blocks = one_block (constants_of p) ∷ [] }
 
 -- the machine can carry out the list
@@ -58,7 +58,7 @@ DirectIsList = (m : Machine) (p : Program) → IsMachine m → IsProgram p → i
 -- the list means the program
 abbrev pub DirectMeans : Type 0
 DirectMeans =
-    (u : Units) (m : Machine) (p : Program) → IsMachine m → IsProgram p → is_direct m p ≡ true → (blocks : List Block) (l : Live) (h : Homes) → IsFlow p blocks → IsLive p l → AreAllotted p 0 h
+    (u : Units) (m : Machine) (p : Program) → IsMachine m → IsProgram p → is_direct m p ≡ true → (blocks : List Block) (l : Live) (h : Homes) → IsFlow p blocks → IsLive p l → SlotsAsScanned p 0 h
     → Means u m p (list_of_direct m p ∷ [])
 
 -- the linker takes its placement
@@ -68,6 +68,6 @@ DirectLinks = (m : Machine) (p : Program) (ps : List Placed) → AreRespected m 
 -- and the code that it makes agrees with the program, where the data are the program's
 abbrev pub DirectAgrees : Type 0
 DirectAgrees =
-    (u : Units) (m : Machine) (p : Program) → IsMachine m → IsProgram p → is_direct m p ≡ true → (blocks : List Block) (l : Live) (h : Homes) → IsFlow p blocks → IsLive p l → AreAllotted p 0 h
+    (u : Units) (m : Machine) (p : Program) → IsMachine m → IsProgram p → is_direct m p ≡ true → (blocks : List Block) (l : Live) (h : Homes) → IsFlow p blocks → IsLive p l → SlotsAsScanned p 0 h
     → (ps : List Placed) (whole : Whole) → AreRespected m (list_of_direct m p ∷ []) ps → IsLinked m whole.code ps → IsLegalCode m whole.code
     → ((memory : List ℕ) → over (data_in whole) memory ≡ over (data_of p) memory) → Agrees u m p whole

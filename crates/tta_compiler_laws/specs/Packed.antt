@@ -1,7 +1,7 @@
 -- Code that is packed: placed lists that do no more than a program asks for, and in which nothing is left to do.
 use Rattle.std.specs.Prelude.{◌≡◌, ℕ, List, [], length, Some, slice_get}
 use Rattle.std.specs.Option.{option_map_or}
-use Rattle.tta_compiler_laws.specs.Cited.{Units, Machine, Choice, hub_of, homes_of, Program, Block, Live, IsFlow, IsLive, Homes, AreAllotted, known_by, Code, BlockList, Placed, IsLinked, total_length, Means}
+use Rattle.tta_compiler_laws.specs.Cited.{Units, Machine, Choice, hub_of, homes_of, Program, Block, Live, IsFlow, IsLive, Homes, SlotsAsScanned, known_by, Code, BlockList, Placed, IsLinked, total_length, Means}
 use Rattle.tta_compiler_laws.specs.Linking.{AreFirstFits}
 use Rattle.tta_compiler_laws.specs.Planned.{ArePlanned, HasForms}
 
@@ -20,7 +20,7 @@ pub record IsPlan (u : Units) (m : Machine) (p : Program) (lists : List BlockLis
   pub homes : choice.homes ≡ homes_on m
   pub flow : IsFlow p blocks
   pub lives : IsLive p live
-  pub allotted : AreAllotted p (length choice.homes) kept
+  pub allotted : SlotsAsScanned p (length choice.homes) kept
   pub planned : ArePlanned u m choice p (known_by p blocks live kept) lists
   pub forms : (k : ℕ) (l : BlockList) → slice_get lists k ≡ Some l → HasForms m l
   pub means : Means u m p lists

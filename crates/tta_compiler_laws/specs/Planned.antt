@@ -1,10 +1,10 @@
 -- What is known of the list of each part of a program, beside what all lists mean.
 use Rattle.std.specs.Prelude.{◌≡◌, ◌≤◌, ℕ, true, false, List, length, map, Some, slice_get}
 use Rattle.std.specs.List.{list_all}
-use Rattle.tta_compiler_laws.specs.Cited.{Units, Op, UnitOp, Machine, op_at, is_frame_op, Choice, hub_of, Program, BlockList, source_of, is_list, is_bypassed, is_shared, is_lively, is_straight, Part, Known, parts, block_of, traffic, asks_part, assigns_part, home_pair, targets, is_trigger_of, is_start_of, is_frame_trigger, is_home, is_need, is_closed, IsKnown}
+use Rattle.tta_compiler_laws.specs.Cited.{Units, Op, UnitOp, Machine, op_at, is_frame_op, Choice, hub_of, Program, BlockList, source_of, is_list, is_bypassed, is_shared, is_lively, is_straight, Part, LoweringInput, parts, block_of, traffic, asks_part, assigns_part, home_pair, targets, is_trigger_of, is_start_of, is_frame_trigger, is_home, is_need, is_closed, IsKnown}
 use Rattle.tta_compiler_laws.specs.Compiler.{IsPair, AreStandIns, raw}
 
-module _ (u : Units) (m : Machine) (c : Choice) (p : Program) (known : Known) where
+module _ (u : Units) (m : Machine) (c : Choice) (p : Program) (known : LoweringInput) where
   -- The list of a part: with the part's registers that stay; a list for the machine whose addresses are those of blocks;
   -- straight; and it triggers and writes no more than the part asks for: each operation of a unit, and on all units together.
   pub record IsListOf (x : Part) (l : BlockList) : Type 0 where
@@ -25,7 +25,7 @@ module _ (u : Units) (m : Machine) (c : Choice) (p : Program) (known : Known) wh
 -- lists that may be placed for the selected ones are such
 abbrev pub ListsPlanned : Type 0
 ListsPlanned =
-    (u : Units) (m : Machine) (c : Choice) (p : Program) (known : Known) (lists : List BlockList) → IsPair u m c p → IsKnown p (length c.homes) known
+    (u : Units) (m : Machine) (c : Choice) (p : Program) (known : LoweringInput) (lists : List BlockList) → IsPair u m c p → IsKnown p (length c.homes) known
     → AreStandIns m (raw u m c p known) lists → ArePlanned u m c p known lists
 
 -- a list in all three forms: no register stands between a result and its reader, no operand is moved twice, and no write

@@ -1,6 +1,6 @@
 -- How long the placed lists of a program are together at most.
 use Rattle.std.specs.Prelude.{◌≡◌, ℕ, ◌+◌, ◌*◌, ◌≤◌, List, length, Some, slice_get}
-use Rattle.tta_compiler_laws.specs.Cited.{Units, Machine, Choice, Program, step_count, Placed, Known, arg_count, var_count, total_length, IsKnown, BlockList, longest, HasRoom}
+use Rattle.tta_compiler_laws.specs.Cited.{Units, Machine, Choice, Program, step_count, Placed, LoweringInput, arg_count, var_count, total_length, IsKnown, BlockList, longest, HasRoom}
 use Rattle.tta_compiler_laws.specs.Compiler.{IsPair, AreStandIns, raw}
 use Rattle.tta_compiler_laws.specs.Linking.{AreRespected}
 
@@ -22,6 +22,6 @@ pub record AreRoomy (m : Machine) (lists : List BlockList) (ps : List Placed) : 
 -- where each placed list has room, all of them together have the program's
 abbrev pub ListsFit : Type 0
 ListsFit =
-    (u : Units) (m : Machine) (c : Choice) (p : Program) (known : Known)
+    (u : Units) (m : Machine) (c : Choice) (p : Program) (known : LoweringInput)
     (lists : List BlockList) (ps : List Placed) → IsPair u m c p → IsKnown p (length c.homes) known
     → AreStandIns m (raw u m c p known) lists → AreRoomy m lists ps → total_length ps ≤ room_on m p

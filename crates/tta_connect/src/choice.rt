@@ -8,8 +8,8 @@ use crate::ends::{into, some_bus};
 use crate::guard::guard_register;
 use crate::homes::homes_of;
 use crate::hub::{has_words, hub_of};
-use crate::joined::Joined;
 use crate::net::Net;
+use crate::target_machine::TargetMachine;
 use crate::units::{has_frame, usable_units};
 use std::alloc::{AllocError, Global};
 use thiserror::Error;
@@ -56,7 +56,7 @@ pub fn cover(alloc: Global, m: &Machine) -> Result<Choice, CoverError>
     ensures refused { IfErr result (λ e. TellsRule m.now e) }
 {
     let net = Net::of(alloc, m)?;
-    let on = Joined {
+    let on = TargetMachine {
         machine: m,
         net: &net,
     };

@@ -3,12 +3,12 @@
 ghost use Rattle.tta_connect.specs.Coverage.{IsChoice};
 
 use crate::choice::Choice;
-use crate::joined::Joined;
+use crate::target_machine::TargetMachine;
 
 /// A machine that keeps all rules of coverage, with its net and what is chosen on it.
 #[derive(Clone, Copy)]
 pub struct BuildTarget<'a> {
-    pub joined: Joined<'a>,
+    pub joined: TargetMachine<'a>,
     pub choice: &'a Choice,
     ghost choice_of: { IsChoice joined.machine.now choice.now },
 }

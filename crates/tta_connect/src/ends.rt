@@ -3,7 +3,7 @@
 ghost use Rattle.std.specs.Prelude.{◌≡◌};
 ghost use Rattle.tta_connect.specs.Coverage.{some_bus, from, into};
 
-use crate::joined::Joined;
+use crate::target_machine::TargetMachine;
 use tta_arch::{Dest, GuardRef, Source};
 
 /// The first register of a file as a source.
@@ -21,7 +21,7 @@ pub fn into(file: u8) -> Dest
 }
 
 /// Whether some bus joins the ends of a move, with its guard.
-pub fn some_bus(on: &Joined<'_>, src: Source, dst: Dest, guard: Option<GuardRef>) -> bool
+pub fn some_bus(on: &TargetMachine<'_>, src: Source, dst: Dest, guard: Option<GuardRef>) -> bool
     ensures { result ≡ some_bus on.now.machine.now src dst guard }
 {
     let m = on.machine;

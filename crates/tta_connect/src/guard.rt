@@ -4,11 +4,11 @@ ghost use Rattle.std.specs.Prelude.{◌≡◌, ℕ, true, IsTrue};
 ghost use Rattle.tta_connect.specs.Coverage.{has_senses, can_guard, guard_in, guard_register};
 
 use crate::ends::{from, into, some_bus};
-use crate::joined::Joined;
+use crate::target_machine::TargetMachine;
 use tta_arch::{Dest, File, GuardRef};
 
 /// Whether a move from the hub can have this register as its guard, plain and inverted.
-fn has_senses(on: &Joined<'_>, hub: u8, file: u8, index: u8, dst: Dest) -> bool
+fn has_senses(on: &TargetMachine<'_>, hub: u8, file: u8, index: u8, dst: Dest) -> bool
     ensures { result ≡ has_senses on.now.machine.now hub file index dst }
 {
     let plain = GuardRef {
@@ -25,7 +25,7 @@ fn has_senses(on: &Joined<'_>, hub: u8, file: u8, index: u8, dst: Dest) -> bool
 }
 
 /// Whether a register can keep a condition, for a jump and for a move within the hub.
-fn can_guard(on: &Joined<'_>, hub: u8, file: u8, index: u8) -> bool
+fn can_guard(on: &TargetMachine<'_>, hub: u8, file: u8, index: u8) -> bool
     ensures { result ≡ can_guard on.now.machine.now hub file index }
 {
     some_bus(on, from(hub), Dest::Reg { file, index }, None)
@@ -35,7 +35,7 @@ fn can_guard(on: &Joined<'_>, hub: u8, file: u8, index: u8) -> bool
 
 /// The first register of a file that can keep a condition.
 #[tactic(auto, using(crate::proofs::Firsts::range_next))]
-fn guard_in(on: &Joined<'_>, hub: u8, file: u8, f: &File) -> Option<(u8, u8)>
+fn guard_in(on: &TargetMachine<'_>, hub: u8, file: u8, f: &File) -> Option<(u8, u8)>
     ensures { result ≡ guard_in on.now.machine.now hub file f.now }
 {
     if f.width != 1 {
@@ -50,7 +50,7 @@ fn guard_in(on: &Joined<'_>, hub: u8, file: u8, f: &File) -> Option<(u8, u8)>
 }
 
 /// The register that keeps conditions.
-pub fn guard_register(on: &Joined<'_>, hub: u8) -> Option<(u8, u8)>
+pub fn guard_register(on: &TargetMachine<'_>, hub: u8) -> Option<(u8, u8)>
     ensures { result ≡ guard_register on.now.machine.now hub }
 {
     if !some_bus(on, from(hub), Dest::Jump, None) {

@@ -4,7 +4,7 @@ ghost use Rattle.std.specs.Prelude.{◌≡◌, ◌++◌, ◌-◌, [], None, OnOk
 ghost use Rattle.tta_connect.specs.Coverage.{registers_from, is_home_file, homes_from, homes_of};
 
 use crate::ends::{from, into, some_bus};
-use crate::joined::Joined;
+use crate::target_machine::TargetMachine;
 use std::alloc::{AllocError, Global};
 use tta_arch::File;
 use tta_list::{Items, entry_at};
@@ -26,7 +26,7 @@ fn push_registers(
 }
 
 /// Whether a file other than the hub can keep variables.
-fn is_home_file(on: &Joined<'_>, hub: u8, file: u8, f: &File) -> bool
+fn is_home_file(on: &TargetMachine<'_>, hub: u8, file: u8, f: &File) -> bool
     ensures { result ≡ is_home_file on.now.machine.now hub file f.now }
 {
     file != hub
@@ -38,7 +38,7 @@ fn is_home_file(on: &Joined<'_>, hub: u8, file: u8, f: &File) -> bool
 /// Appends the home registers of a file other than the hub.
 fn push_file(
     homes: &mut Vec<(u8, u8)>,
-    on: &Joined<'_>,
+    on: &TargetMachine<'_>,
     hub: u8,
     file: u8,
     f: &File,
@@ -54,7 +54,7 @@ fn push_file(
 }
 
 /// Appends the home registers of all files but the hub.
-fn push_files(homes: &mut Vec<(u8, u8)>, on: &Joined<'_>, hub: u8) -> Result<(), AllocError>
+fn push_files(homes: &mut Vec<(u8, u8)>, on: &TargetMachine<'_>, hub: u8) -> Result<(), AllocError>
     ensures { OnOk result
         (homes.new.items ≡ homes.old.items
         ++ homes_from on.now.machine.now hub 0 on.now.machine.now.files) }
@@ -67,7 +67,11 @@ fn push_files(homes: &mut Vec<(u8, u8)>, on: &Joined<'_>, hub: u8) -> Result<(),
 }
 
 /// The home registers.
-pub fn homes_of(alloc: Global, on: &Joined<'_>, hub: u8) -> Result<Items<(u8, u8)>, AllocError>
+pub fn homes_of(
+    alloc: Global,
+    on: &TargetMachine<'_>,
+    hub: u8,
+) -> Result<Items<(u8, u8)>, AllocError>
     ensures { IfOk result (λ homes. homes ≡ homes_of on.now.machine.now hub) }
 {
     let mut homes = Vec::new(alloc);

@@ -7,18 +7,18 @@ ghost use Rattle.tta_connect.specs.Coverage.{is_hub, hub_of, into, some_bus, bus
 ghost use Rattle.tta_connect.specs.Coverage.{brings_all, has_words};
 
 use crate::ends::{from, into, some_bus};
-use crate::joined::Joined;
+use crate::target_machine::TargetMachine;
 use tta_arch::{File, Machine, Source, is_dest_on};
 
 /// Whether a file can be the hub.
-fn is_hub(on: &Joined<'_>, file: u8, f: &File) -> bool
+fn is_hub(on: &TargetMachine<'_>, file: u8, f: &File) -> bool
     ensures { result ≡ is_hub on.now.machine.now file f.now }
 {
     f.width == 32 && 3 <= f.size && some_bus(on, from(file), into(file), None)
 }
 
 /// The hub.
-pub fn hub_of(on: &Joined<'_>) -> Option<u8>
+pub fn hub_of(on: &TargetMachine<'_>) -> Option<u8>
     ensures { result ≡ hub_of on.now.machine.now }
 {
     let m = on.machine;
@@ -49,7 +49,7 @@ fn any_brings_all(m: &Machine, hub: u8) -> bool
 }
 
 /// Whether a register that a template writes is joined to the hub.
-fn any_long(on: &Joined<'_>, hub: u8) -> bool
+fn any_long(on: &TargetMachine<'_>, hub: u8) -> bool
     ensures { result ≡ list_any
         (λ t. some_bus on.now.machine.now (source.Imm t.imm t.reg) (into hub) None)
         on.now.machine.now.templates }
@@ -65,7 +65,7 @@ fn any_long(on: &Joined<'_>, hub: u8) -> bool
 }
 
 /// Whether each word reaches the hub.
-pub fn has_words(on: &Joined<'_>, hub: u8) -> bool
+pub fn has_words(on: &TargetMachine<'_>, hub: u8) -> bool
     ensures { result ≡ has_words on.now.machine.now hub }
 {
     any_brings_all(on.machine, hub) || any_long(on, hub)

@@ -11,15 +11,15 @@ mod guard;
 mod guards;
 mod homes;
 mod hub;
-mod joined;
 mod net;
 mod ports;
+mod target_machine;
 mod units;
 mod way;
 
 pub use calls::{Call, anywhere, offered};
 pub use choice::{Choice, CoverError, cover};
 pub use covered::BuildTarget;
-pub use joined::Joined;
 pub use net::Net;
+pub use target_machine::TargetMachine;
 pub use way::Way;

@@ -10,7 +10,7 @@ ghost use Rattle.tta_connect.specs.Coverage.{some_bus, offered};
 
 use crate::calls::offered;
 use crate::ends::{from, into, some_bus};
-use crate::joined::Joined;
+use crate::target_machine::TargetMachine;
 use tta_arch::{Machine, Op, Source, Unit, has_socket, has_source_socket, with_unit};
 
 /// Whether a bus leads from the hub into a socket.
@@ -40,7 +40,7 @@ fn hub_feeds_port(m: &Machine, hub: u8, port: Option<u8>) -> bool
 }
 
 /// Whether the hub takes what a unit shows, if it shows anything.
-fn hub_takes(on: &Joined<'_>, hub: u8, unit: u8, port: Option<u8>) -> bool
+fn hub_takes(on: &TargetMachine<'_>, hub: u8, unit: u8, port: Option<u8>) -> bool
     ensures { result ≡ option_map_or
         (λ socket. some_bus on.now.machine.now (source.Shown unit) (into hub) None) port true }
 {
@@ -51,7 +51,7 @@ fn hub_takes(on: &Joined<'_>, hub: u8, unit: u8, port: Option<u8>) -> bool
 }
 
 /// Whether the hub is joined to each port of a unit.
-fn is_usable(on: &Joined<'_>, hub: u8, unit: u8, v: &Unit) -> bool
+fn is_usable(on: &TargetMachine<'_>, hub: u8, unit: u8, v: &Unit) -> bool
     ensures { result ≡ is_usable on.now.machine.now hub unit v.now }
 {
     hub_feeds_port(on.machine, hub, v.operand)
@@ -60,7 +60,7 @@ fn is_usable(on: &Joined<'_>, hub: u8, unit: u8, v: &Unit) -> bool
 }
 
 /// The units that all words can reach.
-pub fn usable_units(on: &Joined<'_>, hub: u8) -> u32
+pub fn usable_units(on: &TargetMachine<'_>, hub: u8) -> u32
     ensures { (unit : ℕ) → has_bit result unit ≡ is_usable_at on.now.machine.now hub unit }
 {
     let mut units = 0;

@@ -5,8 +5,8 @@ ghost use Rattle.tta_connect.specs.Net.{IsNetOf};
 ghost use Rattle.tta_connect.specs.Ways.{goes_by_hub, way};
 
 use crate::ends::{from, into, some_bus};
-use crate::joined::Joined;
 use crate::net::Net;
+use crate::target_machine::TargetMachine;
 use tta_arch::{Dest, GuardRef, Machine, Source};
 
 /// How a word gets from one end to another.
@@ -19,7 +19,13 @@ pub enum Way {
 }
 
 /// Whether the source is joined to the hub, and the hub to the destination with the guard.
-fn goes_by_hub(on: &Joined<'_>, hub: u8, src: Source, dst: Dest, guard: Option<GuardRef>) -> bool
+fn goes_by_hub(
+    on: &TargetMachine<'_>,
+    hub: u8,
+    src: Source,
+    dst: Dest,
+    guard: Option<GuardRef>,
+) -> bool
     ensures { result ≡ goes_by_hub on.now.machine.now hub src dst guard }
 {
     some_bus(on, src, into(hub), None) && some_bus(on, from(hub), dst, guard)
@@ -39,7 +45,7 @@ impl Net {
         requires { IsNetOf self.now m.now }
         ensures { result ≡ way m.now hub src.now dst.now guard.now }
     {
-        let on = Joined {
+        let on = TargetMachine {
             machine: m,
             net: self,
         };

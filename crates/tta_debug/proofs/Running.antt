@@ -3,7 +3,7 @@ use Rattle.std.proofs.Common.{◌≡◌, ℕ, suc, Bool, true, false, true≢fal
 use Rattle.std.specs.Prelude.{Result, Ok, Err, IsErr}
 use Rattle.std.specs.Io.KnownBytes.{append_known}
 use Rattle.std.proofs.lemmas.Grind.{flat_map-append}
-use Rattle.tta_debug.specs.Cited.{Rose, Failed, State, Output, IsPut, IsCut, IsQuiet}
+use Rattle.tta_debug.specs.Cited.{Rose, Failed, State, Output, IsPut, IsCut, NothingOutput}
 use Rattle.tta_report.proofs.Puts.{append_known-nil, append_known-twice}
 use Rattle.tta_debug.specs.Debugged.{Debugged, has, is_at_stop, Said, Went, texts, is_waiting, moved, puts, rests, saying, cycles}
 use Rattle.tta_debug.specs.Sessions.{Session', Follows, IsStopped, IsOver, IsMade, IsStuck, Runs}
@@ -40,7 +40,7 @@ put_both xs ys old mid new one two = record {
 }
 
 -- nothing was put after a text
-pub put_quiet : (text : List ℕ) (old mid new : Output) → IsPut text old mid → IsQuiet mid new → IsPut text old new
+pub put_quiet : (text : List ℕ) (old mid new : Output) → IsPut text old mid → NothingOutput mid new → IsPut text old new
 put_quiet text old mid new one two = record { taken = two.taken ∙ one.taken; faults = two.faults ∙ one.faults }
 
 -- lines before lines before others
@@ -87,14 +87,14 @@ module _ (input : List ℕ) (next : State → State) (stops : Debugged → Bool)
   )
 
   -- the run is over
-  pub came_over : (n : ℕ) (h h' : Session') (mid new : Output) (c : Came input next stops count (suc n) d h old mid) → IsOver input next c.now h' → IsQuiet mid new
+  pub came_over : (n : ℕ) (h h' : Session') (mid new : Output) (c : Came input next stops count (suc n) d h old mid) → IsOver input next c.now h' → NothingOutput mid new
       → Runs input (cycles next stops count d) h' old new (Ok false)
   came_over n h h' mid new c over quiet =
       ended h' new c.says (moved c.now (next c.now.state)) false (c.on ∙ ap (saying c.says) (over.stays stops n)) over.follows
       (put_quiet (texts c.says) old mid new c.put quiet)
 
   -- a cycle waits
-  pub came_stuck : (n : ℕ) (h h' : Session') (mid new : Output) (c : Came input next stops count (suc n) d h old mid) → IsStuck input next c.now h' → IsQuiet mid new
+  pub came_stuck : (n : ℕ) (h h' : Session') (mid new : Output) (c : Came input next stops count (suc n) d h old mid) → IsStuck input next c.now h' → NothingOutput mid new
       → Runs input (cycles next stops count d) h' old new (Ok true)
   came_stuck n h h' mid new c stuck quiet =
       ended h' new c.says c.now true (c.on ∙ ap (saying c.says) (cycle_stuck input next stops n c.now h' stuck)) stuck.follows

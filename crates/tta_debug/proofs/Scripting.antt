@@ -4,7 +4,7 @@ use Rattle.std.specs.Prelude.{Result, Ok, Err, drop}
 use Rattle.std.specs.Io.KnownBytes.{append_known}
 use Rattle.std.proofs.Math.Seq.{take-append_seam}
 use Rattle.std.proofs.lemmas.List.{take-append-drop}
-use Rattle.tta_debug.specs.Cited.{Rose, reply_text, Output, IsPut, IsCut, IsQuiet}
+use Rattle.tta_debug.specs.Cited.{Rose, reply_text, Output, IsPut, IsCut, NothingOutput}
 use Rattle.tta_report.specs.declared.reply.Reply.TheVariants as reply
 use Rattle.tta_debug.specs.declared.told.Told.TheVariants.{More, Bye}
 use Rattle.tta_debug.specs.declared.told.CommandError.TheVariants.{Refused, SinkFailed}
@@ -45,7 +45,7 @@ line_cut input (Ok done) h old new does =
 
 -- a refused command whose refusal was put
 pub line_refused : (input : List ℕ) (d : Debugged) (said : Result Done ℕ) (before h : Session') (old mid new : Output) (code : ℕ)
-    → Follows input before d → h ≡ before → IsQuiet old mid → Does input said h old mid (Err (Refused code)) → IsPut (reply_text (reply.Refused code)) mid new
+    → Follows input before d → h ≡ before → NothingOutput old mid → Does input said h old mid (Err (Refused code)) → IsPut (reply_text (reply.Refused code)) mid new
     → TakesLine input d said h old new (Ok true)
 line_refused input d (Ok done) before h old mid new code f same quiet does put = absurd does
 line_refused input d (Err code') before h old mid new code f same quiet does put = (
@@ -59,7 +59,7 @@ line_refused input d (Err code') before h old mid new code f same quiet does put
 
 -- a refused command whose refusal was cut
 pub line_refused_cut : (input : List ℕ) (said : Result Done ℕ) (h : Session') (old mid new : Output) (code : ℕ)
-    → IsQuiet old mid → Does input said h old mid (Err (Refused code)) → IsCut (reply_text (reply.Refused code)) mid new → IsCut (line_text said) old new
+    → NothingOutput old mid → Does input said h old mid (Err (Refused code)) → IsCut (reply_text (reply.Refused code)) mid new → IsCut (line_text said) old new
 line_refused_cut input (Ok done) h old mid new code quiet does cut = absurd does
 line_refused_cut input (Err code') h old mid new code quiet does cut = record {
   count = cut.count;
@@ -76,7 +76,7 @@ line_stopped input d (Ok done) h old new does = does
 
 -- a refused command whose refusal was cut has stopped there
 pub line_refused_stopped : (input : List ℕ) (d : Debugged) (said : Result Done ℕ) (before h : Session') (old mid new : Output) (code : ℕ)
-    → Follows input before d → h ≡ before → IsQuiet old mid → Does input said h old mid (Err (Refused code)) → IsCut (reply_text (reply.Refused code)) mid new
+    → Follows input before d → h ≡ before → NothingOutput old mid → Does input said h old mid (Err (Refused code)) → IsCut (reply_text (reply.Refused code)) mid new
     → IsStopped input (line_says d said) h old new
 line_refused_stopped input d (Ok done) before h old mid new code f same quiet does cut = absurd does
 line_refused_stopped input d (Err code') before h old mid new code f same quiet does cut = record {

@@ -13,7 +13,7 @@ pub use Rattle.tta_list.specs.Iterate.{iterate}
 pub use Rattle.tta_ops.specs.Set.{stated}
 pub use Rattle.tta_ops.specs.Units.{Units}
 pub use Rattle.tta_ports.specs.Faults.{Rose}
-pub use Rattle.tta_ports.specs.Output.{IsCut, IsPut, IsQuiet, Output}
+pub use Rattle.tta_ports.specs.Output.{IsCut, IsPut, NothingOutput, Output}
 pub use Rattle.tta_ports.specs.declared.error.Failed.{Failed}
 pub use Rattle.tta_report.specs.Replies.{due_text, reply_text}
 pub use Rattle.tta_report.specs.declared.reply.Reply.{Reply}

@@ -1,7 +1,7 @@
 -- What a session holds, what it stands for, and what a command does to it and to the output.
 use Rattle.std.specs.Prelude.{◌≡◌, ℕ, suc, Bool, true, false, List, [], ◌∷◌, ◌++◌, take, drop, Option, None, Some, Result, Ok, Err}
 use Rattle.std.specs.Io.KnownBytes.{append_known}
-use Rattle.tta_debug.specs.Cited.{Rose, Output, IsPut, IsCut, IsQuiet, Failed, reply_text, State, Held, Stands}
+use Rattle.tta_debug.specs.Cited.{Rose, Output, IsPut, IsCut, NothingOutput, Failed, reply_text, State, Held, Stands}
 use Rattle.tta_report.specs.declared.reply.Reply.TheVariants as reply
 use Rattle.tta_debug.specs.declared.told.Told.{Told}
 use Rattle.tta_debug.specs.declared.told.Told.TheVariants.{More, Bye}
@@ -53,7 +53,7 @@ Does input (Err code') h old new (Err (Refused code)) = code ≡ code'
 abbrev pub Keeps : (before after : Session') → (old new : Output) → Result Told CommandError → Type 0
 Keeps before after old new (Ok told) = new.faults ≡ old.faults
 Keeps before after old new (Err SinkFailed) = Rose old.faults new.faults
-Keeps before after old new (Err (Refused code)) = (after ≡ before) × IsQuiet old new
+Keeps before after old new (Err (Refused code)) = (after ≡ before) × NothingOutput old new
 
 -- a line was put, and this was answered, or a prefix of it was put
 abbrev pub SaysLine : (text : List ℕ) → Told → (old new : Output) → Result Told CommandError → Type 0
@@ -98,8 +98,8 @@ pub record IsStuck (input : List ℕ) (next : State → State) (d : Debugged) (h
 -- what one cycle does to a session, and what it puts
 abbrev pub Cycles : (input : List ℕ) → (next : State → State) → Debugged → Session' → (old new : Output) → Result After Failed → Type 0
 Cycles input next d h old new (Ok On) = IsMade input next d h × IsPut (texts (puts d (next d.state))) old new
-Cycles input next d h old new (Ok Over) = IsOver input next d h × IsQuiet old new
-Cycles input next d h old new (Ok Waits) = IsStuck input next d h × IsQuiet old new
+Cycles input next d h old new (Ok Over) = IsOver input next d h × NothingOutput old new
+Cycles input next d h old new (Ok Waits) = IsStuck input next d h × NothingOutput old new
 Cycles input next d h old new (Err failed) =
     IsMade input next d h × ((line : Said) × (puts d (next d.state) ≡ line ∷ []) × (line.at ≡ moved d (next d.state)) × IsCut line.text old new)
 

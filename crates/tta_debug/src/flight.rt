@@ -20,7 +20,8 @@ fn put_one<S: Sink>(sink: &mut S, sim: &Sim, name: &[u8], unit: u8, delay: u8) -
     ensures grows { (d : Debugged) → Stands sim.now d.state
         → PutsBytes (texts (due_line d name.now unit delay))
         (S.output sink.old).taken (S.output sink.new).taken result }
-    ensures cause { CountsFault (is_err result) (S.output sink.old).faults (S.output sink.new).faults }
+    ensures cause { CountsFault (is_err result) (S.output sink.old).faults
+        (S.output sink.new).faults }
 {
     match sim.due(unit, delay) {
         None => Ok(()),
@@ -36,7 +37,8 @@ fn put_unit<S: Sink>(sink: &mut S, sim: &Sim, name: &[u8], unit: u8) -> Result<(
     ensures grows { (d : Debugged) → Stands sim.now d.state
         → PutsBytes (texts (due_lines d name.now unit 1 16))
         (S.output sink.old).taken (S.output sink.new).taken result }
-    ensures cause { CountsFault (is_err result) (S.output sink.old).faults (S.output sink.new).faults }
+    ensures cause { CountsFault (is_err result) (S.output sink.old).faults
+        (S.output sink.new).faults }
 {
     let mut delay = 1u8;
     'delays: while delay <= 16 {
@@ -53,8 +55,10 @@ fn put_units<S: Sink>(sink: &mut S, sim: &Sim, units: &[Unit]) -> Result<(), Fai
     requires names { AllByRecursion (λ u. length u.name ≤ 64) units.now }
     requires few { sim.now.cycle < 2 ^ 62 }
     ensures grows { (d : Debugged) → Stands sim.now d.state
-        → PutsBytes (texts (unit_lines d 0 units.now)) (S.output sink.old).taken (S.output sink.new).taken result }
-    ensures cause { CountsFault (is_err result) (S.output sink.old).faults (S.output sink.new).faults }
+        → PutsBytes (texts (unit_lines d 0 units.now)) (S.output sink.old).taken
+        (S.output sink.new).taken result }
+    ensures cause { CountsFault (is_err result) (S.output sink.old).faults
+        (S.output sink.new).faults }
 {
     let mut number = 0u8;
     'units: for unit in units {
@@ -72,7 +76,8 @@ pub fn put_flight<S: Sink>(sink: &mut S, sim: &Sim, m: &Machine) -> Result<(), F
     ensures grows { (d : Debugged) → Stands sim.now d.state
         → PutsBytes (texts (unit_lines d 0 m.now.units))
         (S.output sink.old).taken (S.output sink.new).taken result }
-    ensures cause { CountsFault (is_err result) (S.output sink.old).faults (S.output sink.new).faults }
+    ensures cause { CountsFault (is_err result) (S.output sink.old).faults
+        (S.output sink.new).faults }
 {
     put_units(sink, sim, m.units.as_slice())
 }

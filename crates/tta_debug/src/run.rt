@@ -58,7 +58,8 @@ fn next_of(input: &[u32], taken: usize) -> Option<u32>
 fn put_word<S: Sink>(sink: &mut S, word: Option<u32>) -> Result<(), Failed>
     ensures puts { PutsWord word (S.output sink.old)
         (S.output sink.new) result }
-    ensures cause { CountsFault (is_err result) (S.output sink.old).faults (S.output sink.new).faults }
+    ensures cause { CountsFault (is_err result) (S.output sink.old).faults
+        (S.output sink.new).faults }
 {
     match word {
         None => Ok(()),
@@ -78,7 +79,8 @@ fn cycle<S: Sink>(session: &mut Session, basis: &Basis<'_>, sink: &mut S) -> Res
         → Cycles on.input.now step d session.new
         (S.output sink.old)
         (S.output sink.new) result }
-    ensures cause { CountsFault (is_err result) (S.output sink.old).faults (S.output sink.new).faults }
+    ensures cause { CountsFault (is_err result) (S.output sink.old).faults
+        (S.output sink.new).faults }
 {
     match session.sim.cycle(
         basis.m,
@@ -119,7 +121,8 @@ pub fn run_cycles<S: Sink>(
         → Runs on.input.now (cycles step (λ e. to_stop && is_at_stop e) count d) session.new
         (S.output sink.old)
         (S.output sink.new) result }
-    ensures cause { CountsFault (is_err result) (S.output sink.old).faults (S.output sink.new).faults }
+    ensures cause { CountsFault (is_err result) (S.output sink.old).faults
+        (S.output sink.new).faults }
 {
     let mut left = count;
     'cycles: while left > 0 {

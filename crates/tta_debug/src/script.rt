@@ -48,7 +48,8 @@ pub fn take_line<S: Sink>(
         (line_says d (command U on.m.now on.code.now line.now d)) session.new
         (S.output sink.old)
         (S.output sink.new)) }
-    ensures cause { CountsFault (is_err result) (S.output sink.old).faults (S.output sink.new).faults }
+    ensures cause { CountsFault (is_err result) (S.output sink.old).faults
+        (S.output sink.new).faults }
 {
     match session.command(line, basis.m, basis.code, basis.units, basis.input, sink) {
         Ok(Told::More) => Ok(true),
@@ -120,7 +121,8 @@ fn take_lines<S: Sink>(
         → IfErr result (λ e. IsStopped on.input.now (says (lines_of script.now) d) session.new
         (S.output sink.old)
         (S.output sink.new)) }
-    ensures cause { CountsFault (is_err result) (S.output sink.old).faults (S.output sink.new).faults }
+    ensures cause { CountsFault (is_err result) (S.output sink.old).faults
+        (S.output sink.new).faults }
 {
     let mut rest = script;
     'lines: while !rest.is_empty() {
@@ -164,7 +166,8 @@ pub fn run_script<S: Sink>(
         (script_says U m.now code.now (lines_of script.now) d) session.new
         (S.output sink.old)
         (S.output sink.new)) }
-    ensures cause { CountsFault (is_err result) (S.output sink.old).faults (S.output sink.new).faults }
+    ensures cause { CountsFault (is_err result) (S.output sink.old).faults
+        (S.output sink.new).faults }
 {
     let basis = Basis {
         m,

@@ -7,28 +7,28 @@ use Rattle.std.proofs.lemmas.List.{take_more, drop_more}
 use Rattle.std.proofs.lemmas.List.Sums.{fold-append}
 use Rattle.tta_draw.specs.Cited.{Source, Template, Machine, first_some, or_else, Instruction, Long, Move}
 use Rattle.tta_arch.specs.declared.ends.Source.TheVariants as source
-use Rattle.tta_draw.specs.declared.targets.Known.{Known}
-use Rattle.tta_draw.specs.Known.{is_of, known_word, learned, wrote}
+use Rattle.tta_draw.specs.declared.targets.ImmediateWord.{ImmediateWord}
+use Rattle.tta_draw.specs.ImmediateWord.{is_of, known_word, learned, wrote}
 use Rattle.tta_draw.specs.Targets.{leading, long_word, nearest_word, source_word, target_of}
 
 -- the word of one entry, if it is that of a register
-abbrev entry_word : (unit index : ℕ) → Known → Option ℕ
+abbrev entry_word : (unit index : ℕ) → ImmediateWord → Option ℕ
 entry_word unit index k = if is_of unit index k then Some k.word else None
 
 -- two entries of one register are of the same registers
-same_of : (unit index : ℕ) (k n : Known) → is_of n.unit n.index k ≡ true → is_of unit index k ≡ is_of unit index n
+same_of : (unit index : ℕ) (k n : ImmediateWord) → is_of n.unit n.index k ≡ true → is_of unit index k ≡ is_of unit index n
 same_of unit index k n same =
     let parts = and_parts (k.unit == n.unit) (k.index == n.index) same in
     rw (eqb-true k.unit n.unit parts.0, eqb-true k.index n.index parts.1) refl
 
 -- an entry of another register is not of one that this entry is of
-other_of : (unit index : ℕ) (k n : Known) → is_of n.unit n.index k ≡ false → is_of unit index n ≡ true → is_of unit index k ≡ false
+other_of : (unit index : ℕ) (k n : ImmediateWord) → is_of n.unit n.index k ≡ false → is_of unit index n ≡ true → is_of unit index k ≡ false
 other_of unit index k n other is =
     let parts = and_parts (n.unit == unit) (n.index == index) is in
     rw (sym (eqb-true n.unit unit parts.0), sym (eqb-true n.index index parts.1)) other
 
 -- what is known after a further word
-pub known-learned : (n : Known) (ks : List Known) (unit index : ℕ)
+pub known-learned : (n : ImmediateWord) (ks : List ImmediateWord) (unit index : ℕ)
     → known_word (learned n ks) unit index ≡ (if is_of unit index n then Some n.word else known_word ks unit index)
 known-learned n [] unit index = by (is_of unit index n) refl where
   by : (b : Bool) → is_of unit index n ≡ b → or_else (entry_word unit index n) None ≡ (if is_of unit index n then Some n.word else None)
@@ -45,7 +45,7 @@ known-learned n (k ∷ ks) unit index = by (known-learned n ks unit index) (is_o
   by rest false false e is = rw (e, rest, is) refl
 
 -- what is known after the long immediate of an instruction
-pub known-after : (m : Machine) (i : Instruction) (ks : List Known) (unit index : ℕ)
+pub known-after : (m : Machine) (i : Instruction) (ks : List ImmediateWord) (unit index : ℕ)
     → known_word (option_map_or (λ k. learned k ks) (wrote m i.long) ks) unit index ≡ or_else (long_word m unit index i) (known_word ks unit index)
 known-after m i ks unit index = on i.long where
   at : (l : Long) (t : Option Template)
@@ -72,14 +72,14 @@ nearest-more m words row i unit index within is =
     ∙ ap (λ (x : Instruction). or_else (long_word m unit index x) (nearest_word m (take row words) unit index)) (sym is)
 
 -- entries tell the words of all registers above a row
-abbrev pub KnowsAbove : Machine → List Instruction → (row : ℕ) → List Known → Type 0
+abbrev pub KnowsAbove : Machine → List Instruction → (row : ℕ) → List ImmediateWord → Type 0
 KnowsAbove m words row ks = (unit index : ℕ) → known_word ks unit index ≡ nearest_word m (take row words) unit index
 
 -- and after what that row wrote, those above the next
-pub knows-more : (m : Machine) (words : List Instruction) (row : ℕ) (i : Instruction) (old new : List Known) → row < length words → i ≡ get_or words row i
+pub knows-more : (m : Machine) (words : List Instruction) (row : ℕ) (i : Instruction) (old new : List ImmediateWord) → row < length words → i ≡ get_or words row i
     → new ≡ option_map_or (λ k. learned k old) (wrote m i.long) old → KnowsAbove m words row old → KnowsAbove m words (row + 1) new
 knows-more m words row i old new within is more knows unit index =
-    ap (λ (ks : List Known). known_word ks unit index) more ∙ known-after m i old unit index
+    ap (λ (ks : List ImmediateWord). known_word ks unit index) more ∙ known-after m i old unit index
     ∙ ap (or_else (long_word m unit index i)) (knows unit index) ∙ sym (nearest-more m words row i unit index within is)
 
 -- an instruction leads to the same target by words that are the same
@@ -98,25 +98,25 @@ target-same f g i same = on (first_some leading i.moves) where
 
 -- ---- a word that is learned, as a walk over what is known comes to its place
 
-split_set : (xs : List Known) (i : ℕ) (y : Known) → i < length xs → set xs i y ≡ take i xs ++ y ∷ drop (i + 1) xs
+split_set : (xs : List ImmediateWord) (i : ℕ) (y : ImmediateWord) → i < length xs → set xs i y ≡ take i xs ++ y ∷ drop (i + 1) xs
 split_set [] i y h = absurd (omega arith)
 split_set (x ∷ xs) zero y h = refl
 split_set (x ∷ xs) (suc i) y h =
     let e : suc i + 1 ≡ suc (i + 1) = omega arith in
-    rw e (ap (λ (l : List Known). x ∷ l) (split_set xs i y (omega (arith, h))))
+    rw e (ap (λ (l : List ImmediateWord). x ∷ l) (split_set xs i y (omega (arith, h))))
 
-pub learned-here : (n : Known) (ks all : List Known) (place : ℕ) (k : Known) → place < length ks → k ≡ get_or ks place k → is_of n.unit n.index k ≡ true
+pub learned-here : (n : ImmediateWord) (ks all : List ImmediateWord) (place : ℕ) (k : ImmediateWord) → place < length ks → k ≡ get_or ks place k → is_of n.unit n.index k ≡ true
     → take place ks ++ learned n (drop place ks) ≡ all → set ks place n ≡ all
 learned-here n ks all place k within is same was =
-    let at : drop place ks ≡ k ∷ drop (place + 1) ks = drop_more ks place k within ∙ ap (λ (x : Known). x ∷ drop (place + 1) ks) (sym is) in
+    let at : drop place ks ≡ k ∷ drop (place + 1) ks = drop_more ks place k within ∙ ap (λ (x : ImmediateWord). x ∷ drop (place + 1) ks) (sym is) in
     split_set ks place n within ∙ sym (ap (λ b. take place ks ++ (if b then n ∷ drop (place + 1) ks else k ∷ learned n (drop (place + 1) ks))) same)
-    ∙ sym (ap (λ (l : List Known). take place ks ++ learned n l) at) ∙ was
+    ∙ sym (ap (λ (l : List ImmediateWord). take place ks ++ learned n l) at) ∙ was
 
-pub learned-next : (n : Known) (ks all : List Known) (place : ℕ) (k : Known) → place < length ks → k ≡ get_or ks place k → is_of n.unit n.index k ≡ false
+pub learned-next : (n : ImmediateWord) (ks all : List ImmediateWord) (place : ℕ) (k : ImmediateWord) → place < length ks → k ≡ get_or ks place k → is_of n.unit n.index k ≡ false
     → take place ks ++ learned n (drop place ks) ≡ all → take (place + 1) ks ++ learned n (drop (place + 1) ks) ≡ all
 learned-next n ks all place k within is other was =
-    let at : drop place ks ≡ k ∷ drop (place + 1) ks = drop_more ks place k within ∙ ap (λ (x : Known). x ∷ drop (place + 1) ks) (sym is) in
-    ap (λ (l : List Known). l ++ learned n (drop (place + 1) ks)) (take_more ks place k within ∙ ap (λ (x : Known). take place ks ++ x ∷ []) (sym is))
+    let at : drop place ks ≡ k ∷ drop (place + 1) ks = drop_more ks place k within ∙ ap (λ (x : ImmediateWord). x ∷ drop (place + 1) ks) (sym is) in
+    ap (λ (l : List ImmediateWord). l ++ learned n (drop (place + 1) ks)) (take_more ks place k within ∙ ap (λ (x : ImmediateWord). take place ks ++ x ∷ []) (sym is))
     ∙ append_assoc (take place ks) (k ∷ []) (learned n (drop (place + 1) ks))
     ∙ sym (ap (λ b. take place ks ++ (if b then n ∷ drop (place + 1) ks else k ∷ learned n (drop (place + 1) ks))) other)
-    ∙ sym (ap (λ (l : List Known). take place ks ++ learned n l) at) ∙ was
+    ∙ sym (ap (λ (l : List ImmediateWord). take place ks ++ learned n l) at) ∙ was

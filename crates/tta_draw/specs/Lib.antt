@@ -7,7 +7,7 @@ pub mod MachineWidths
 pub mod MachinePlaces
 pub mod MachinePicture
 pub mod Targets
-pub mod Known
+pub mod ImmediateWord
 pub mod DelaySlots
 pub mod Results
 pub mod Lanes

@@ -49,7 +49,8 @@ fn first_lane(free: &[u64; 16], lanes: u8, row: u64) -> u8
 fn take_lane(free: &mut [u64; 16], lane: u8, bottom: u32)
     requires { lane < 16 }
     ensures taken { (k : ℕ) → k < 16 → slice_index free.new k
-        ≡ (if k == lane then max (slice_index free.old k) (bottom + 1) else slice_index free.old k) }
+        ≡ (if k == lane then max (slice_index free.old k) (bottom + 1)
+        else slice_index free.old k) }
 {
     let place = usize::from(lane);
     free[place] = free[place].max(u64::from(bottom) + 1);
@@ -106,7 +107,8 @@ fn set_label(labels: &mut Vec<bool>, row: usize)
 /// Gives labels to the rows that arrows lead to.
 fn set_labels(labels: &mut Vec<bool>, spans: &[Span])
     ensures size { length labels.new.items ≡ length labels.old.items }
-    ensures set { (row : ℕ) → row < length labels.old.items → slice_index_or labels.new.items row false
+    ensures set { (row : ℕ) → row < length labels.old.items
+        → slice_index_or labels.new.items row false
         ≡ (slice_index_or labels.old.items row false || list_any (λ s. s.to == row) spans.now) }
 {
     for span in spans {

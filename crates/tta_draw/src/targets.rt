@@ -6,7 +6,7 @@ ghost use Rattle.std.specs.Option.{option_map_or};
 ghost use Rattle.tta_arch.specs.Effects.{first_some};
 ghost use Rattle.tta_draw.specs.Targets.{leads, leading, source_word, target_of, arrow_to};
 ghost use Rattle.tta_draw.specs.Targets.{arrows_of};
-ghost use Rattle.tta_draw.specs.Known.{is_of, known_word, learned, wrote};
+ghost use Rattle.tta_draw.specs.ImmediateWord.{is_of, known_word, learned, wrote};
 
 use crate::delay_slots::delay_of;
 use crate::span::Span;
@@ -16,7 +16,7 @@ use tta_code::{Instruction, Long, Move};
 
 /// The word that was written last into an immediate register.
 #[derive(Clone, Copy, Debug, PartialEq, Eq)]
-pub struct Known {
+pub struct ImmediateWord {
     pub unit: u8,
     pub index: u8,
     pub word: u32,
@@ -55,14 +55,14 @@ fn jump_in(slots: &[Option<Move>]) -> Option<Move>
 }
 
 /// Whether a word is that of an immediate register.
-fn is_of(k: Known, unit: u8, index: u8) -> bool
+fn is_of(k: ImmediateWord, unit: u8, index: u8) -> bool
     ensures { result ≡ is_of unit index k }
 {
     k.unit == unit && k.index == index
 }
 
 /// The word of an immediate register, if it is known.
-fn word_of(known: &[Known], unit: u8, index: u8) -> Option<u32>
+fn word_of(known: &[ImmediateWord], unit: u8, index: u8) -> Option<u32>
     ensures { result ≡ known_word known.now unit index }
 {
     for k in known {
@@ -74,7 +74,7 @@ fn word_of(known: &[Known], unit: u8, index: u8) -> Option<u32>
 }
 
 /// The word of a source, where it is known.
-fn source_word(known: &[Known], src: Source) -> Option<u32>
+fn source_word(known: &[ImmediateWord], src: Source) -> Option<u32>
     ensures { result ≡ source_word (known_word known.now) src }
 {
     match src {
@@ -85,7 +85,7 @@ fn source_word(known: &[Known], src: Source) -> Option<u32>
 }
 
 /// Where an instruction leads that jumps or calls, where it is known.
-fn target_of(known: &[Known], i: &Instruction) -> Option<u32>
+fn target_of(known: &[ImmediateWord], i: &Instruction) -> Option<u32>
     ensures { result ≡ target_of (known_word known.now) i.now }
 {
     match jump_in(i.moves.as_slice()) {
@@ -95,7 +95,7 @@ fn target_of(known: &[Known], i: &Instruction) -> Option<u32>
 }
 
 /// Keeps a word that is written into an immediate register, in place of what it had before.
-fn learn(known: &mut Vec<Known>, news: Known) -> Result<(), AllocError>
+fn learn(known: &mut Vec<ImmediateWord>, news: ImmediateWord) -> Result<(), AllocError>
     ensures { OnOk result (known.new.items ≡ learned news known.old.items) }
 {
     for place in 0..known.len() {
@@ -109,7 +109,7 @@ fn learn(known: &mut Vec<Known>, news: Known) -> Result<(), AllocError>
 }
 
 /// What a long immediate writes.
-fn wrote(m: &Machine, long: Option<Long>) -> Option<Known>
+fn wrote(m: &Machine, long: Option<Long>) -> Option<ImmediateWord>
     ensures { result ≡ wrote m.now long }
 {
     let Some(l) = long else {
@@ -117,7 +117,7 @@ fn wrote(m: &Machine, long: Option<Long>) -> Option<Known>
     };
     match m.templates.as_slice().get(usize::from(l.template)) {
         None => None,
-        Some(t) => Some(Known {
+        Some(t) => Some(ImmediateWord {
             unit: t.imm,
             index: t.reg,
             word: l.value,
@@ -126,7 +126,11 @@ fn wrote(m: &Machine, long: Option<Long>) -> Option<Known>
 }
 
 /// Keeps what a long immediate writes, if there is one.
-fn learn_from(known: &mut Vec<Known>, m: &Machine, long: Option<Long>) -> Result<(), AllocError>
+fn learn_from(
+    known: &mut Vec<ImmediateWord>,
+    m: &Machine,
+    long: Option<Long>,
+) -> Result<(), AllocError>
     ensures { OnOk result
         (known.new.items ≡ option_map_or (λ k. learned k known.old.items) (wrote m.now long) known.old.items) }
 {
@@ -162,7 +166,7 @@ fn push_arrow_to(
 /// Puts the arrows of the jumps of rows.
 fn push_arrows(
     arrows: &mut Vec<Span>,
-    known: &mut Vec<Known>,
+    known: &mut Vec<ImmediateWord>,
     m: &Machine,
     words: &[Instruction],
 ) -> Result<(), AllocError>

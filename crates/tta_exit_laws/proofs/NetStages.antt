@@ -1,6 +1,6 @@
 -- What the clause of `net` says at a status is what the one stage says that can end so.
 use Rattle.std.proofs.Common.{◌≡◌, ◌⊎◌, inl, inr, ℕ, Bool, true, false, List, length, Option, None, Some, refl, sym, ap, subst, ◌∙◌, ⊎_elim}
-use Rattle.tta_exit_laws.specs.Cited.{Store, World, IsUntouched, Output, IsQuiet, IsPut, IsCut, Units, Core, Network, Joined, joined, AreAtRest, cycles, first_states, Feeds, StepResult, HasEnded, Status, HasText, Held, ReadFails, ReadFailed, FileFails, HasMachine, RefusesMachine, IsImageFor, RefusesImage, RefusesInput, HasPair, AreLinks, RefusesLinks, cores_in, name_of, word_of, as_core, HasCores, CoreFileFails, CoreFails, CoresFail, net_text, rounds_status, HasMadeRounds}
+use Rattle.tta_exit_laws.specs.Cited.{Store, World, IsUntouched, Output, NothingOutput, IsPut, IsCut, Units, Core, Network, NetworkCore, joined, AreAtRest, cycles, first_states, Feeds, StepResult, HasEnded, Status, HasText, Held, ReadFails, ReadFailed, FileFails, HasMachine, RefusesMachine, IsImageFor, RefusesImage, RefusesInput, HasPair, AreLinks, RefusesLinks, cores_in, name_of, word_of, as_core, HasCores, CoreFileFails, CoreFails, CoresFail, net_text, rounds_status, HasMadeRounds}
 use Rattle.tta_code.specs.Cycle.{State}
 use Rattle.tta_load.specs.declared.status.Status.TheVariants as status
 use Rattle.tta_load.specs.Held.{IsTooLong}
@@ -157,17 +157,17 @@ module _ (u : Units) (feeds : Feeds) (cores : List Core) (memories : List (List 
   abbrev Made : Status → Type 0
   Made s = HasMadeRounds u feeds cores memories rounds old new s
 
-  abbrev Come : Bool → (List StepResult → List (Joined State) → Type 0) → Type 0
+  abbrev Come : Bool → (List StepResult → List (NetworkCore State) → Type 0) → Type 0
   Come is_running Is = ComeTo u feeds cores memories rounds is_running Is
 
   -- rounds with something else that is true of them
-  come : {P : List (Joined State) → Type 0} (is_running at : Bool) (last : List StepResult) (Is : List StepResult → List (Joined State) → Type 0)
+  come : {P : List (NetworkCore State) → Type 0} (is_running at : Bool) (last : List StepResult) (Is : List StepResult → List (NetworkCore State) → Type 0)
       → (ended : HasEnded net (length cores) (joined (first_states cores memories)) rounds is_running last P) → is_running ≡ at
-      → ((cs : List (Joined State)) → P cs → Is last cs) → Come at Is
+      → ((cs : List (NetworkCore State)) → P cs → Is last cs) → Come at Is
   come is_running at last Is ended is so =
       subst (λ (r : Bool). Come r Is) is (record { last = last; ended = ended_with ended (so _ ended.stands) })
 
-  abbrev IsWell : List StepResult → List (Joined State) → Type 0
+  abbrev IsWell : List StepResult → List (NetworkCore State) → Type 0
   IsWell last cs = (least_fault last cs ≡ None) × AreAtRest net cs × IsPut (net_text cs last) old new
 
   pub well : Made status.Ok → Come false IsWell
@@ -182,7 +182,7 @@ module _ (u : Units) (feeds : Feeds) (cores : List Core) (memories : List (List 
     ended = ended_with c.ended ((sym (ap (rounds_status false) c.ended.stands.0), c.ended.stands.2), λ ok. c.ended.stands.1);
   }
 
-  abbrev IsFault : (code cycle : ℕ) → List StepResult → List (Joined State) → Type 0
+  abbrev IsFault : (code cycle : ℕ) → List StepResult → List (NetworkCore State) → Type 0
   IsFault code cycle last cs = (least_fault last cs ≡ Some (code, cycle)) × IsPut (net_text cs last) old new
 
   pub at_a_fault : (code cycle : ℕ) → Made (status.MachineFault code cycle) → Come false (IsFault code cycle)
@@ -197,7 +197,7 @@ module _ (u : Units) (feeds : Feeds) (cores : List Core) (memories : List (List 
     ended = ended_with c.ended ((sym (ap (rounds_status false) c.ended.stands.0), c.ended.stands.1), λ ok. absurd cc);
   }
 
-  abbrev IsAllPut : List StepResult → List (Joined State) → Type 0
+  abbrev IsAllPut : List StepResult → List (NetworkCore State) → Type 0
   IsAllPut last cs = IsPut (net_text cs last) old new
 
   pub goes_on : Made status.Running → Come true IsAllPut
@@ -206,7 +206,7 @@ module _ (u : Units) (feeds : Feeds) (cores : List Core) (memories : List (List 
   pub made_on : Come true IsAllPut → Made status.Running
   made_on c = record { is_running = true; last = c.last; ended = ended_with c.ended ((refl, c.ended.stands), λ ok. absurd cc) }
 
-  abbrev IsPartPut : List StepResult → List (Joined State) → Type 0
+  abbrev IsPartPut : List StepResult → List (NetworkCore State) → Type 0
   IsPartPut last cs = IsCut (net_text cs last) old new
 
   pub cut : (e : Made status.WriteFault) → Come e.is_running IsPartPut
@@ -222,9 +222,9 @@ abbrev pub NetEnds : Units → (LINKS : List ℕ) → (names : List (List ℕ)) 
     → (Rest : Feeds → List Core → (memories : List (List ℕ)) → Type 0) → Type 0
 NetEnds u LINKS names before after old new s Rest =
     let count = cores_in (length names) in
-    (FileFails (RefusesLinks count) LINKS 2 before after s × IsQuiet old new)
+    (FileFails (RefusesLinks count) LINKS 2 before after s × NothingOutput old new)
     ⊎ ((links : Held (AreLinks count) before.contents LINKS)
-    × ((CoresFail u names count before after s × IsQuiet old new)
+    × ((CoresFail u names count before after s × NothingOutput old new)
     ⊎ ((has : HasCores u before.contents names count) × IsUntouched before after × Rest links.value has.cores has.memories)))
 
 module _ (u : Units) (LINKS : List ℕ) (names : List (List ℕ)) (before after : World) (old new : Output) (s : Status)
@@ -234,10 +234,10 @@ module _ (u : Units) (LINKS : List ℕ) (names : List (List ℕ)) (before after 
 
   abbrev pub NetStages : (G : Type 0) → Type 0
   NetStages G =
-      (ReadFails LINKS 2 before after s → IsQuiet old new → G)
-      → (IsUntouched before after × HasText before.contents LINKS (λ bytes. RefusesLinks count bytes s) → IsQuiet old new → G)
+      (ReadFails LINKS 2 before after s → NothingOutput old new → G)
+      → (IsUntouched before after × HasText before.contents LINKS (λ bytes. RefusesLinks count bytes s) → NothingOutput old new → G)
       → (Held (AreLinks count) before.contents LINKS → OfCore u before.contents names count (λ k. CoreEndings u names k before after s)
-      → IsQuiet old new → G)
+      → NothingOutput old new → G)
       → ((links : Held (AreLinks count) before.contents LINKS) (has : HasCores u before.contents names count)
       → IsUntouched before after → Rest links.value has.cores has.memories → G)
       → NetEnds u LINKS names before after old new s Rest → G
@@ -251,7 +251,7 @@ module _ (u : Units) (LINKS : List ℕ) (names : List (List ℕ)) (before after 
   -- a file that is at fault
   pub net_at : (Fault : List ℕ → Type 0) (word : ℕ) → (word ≡ 2 → Fault LINKS → ReadFails LINKS 2 before after s)
       → ((k : ℕ) → CoreFault u before.contents names Fault word k → CoreEndings u names k before after s)
-      → IsQuiet old new → NetFault u before.contents LINKS names Fault word → NetEnds u LINKS names before after old new s Rest
+      → NothingOutput old new → NetFault u before.contents LINKS names Fault word → NetEnds u LINKS names before after old new s Rest
   net_at Fault word links core quiet (inl e) = inl (inl (links e.0 e.1), quiet)
   net_at Fault word links core quiet (inr e) =
       let f = e.1 in

@@ -4,7 +4,7 @@ use Rattle.std.proofs.lemmas.Bool.{cases_lt}
 use Rattle.std.proofs.lemmas.List.{length-map}
 use Rattle.std.proofs.lemmas.Option.{slice_get_within}
 use Rattle.tta_ports.specs.declared.fault.Fault.{Fault}
-use Rattle.tta_exit_laws.specs.Cited.{Store, Rose, World, Output, input_of, Units, over, Whole, data_in, Core, Network, Joined, joined, AreAtRest, cycles, first_states, Feeds, links_of, StepResult, fault_at, StopsAfter, went_in, last_answers, after_rounds, HasEnded, MachineFile, Status, IsHeld, IsDescribed, RefusesMachine, IsImageFor, RefusesImage, Fills, RefusesInput, AreLinks, RefusesLinks, cores_in, name_of, word_of, IsCoreFrom, as_core, CoreFileFails, CoreFails, HasCores, CoresFail, first_fault, rounds_status, NetPuts, NetReports, CoresReport}
+use Rattle.tta_exit_laws.specs.Cited.{Store, Rose, World, Output, input_of, Units, over, Whole, data_in, Core, Network, NetworkCore, joined, AreAtRest, cycles, first_states, Feeds, links_of, StepResult, fault_at, StopsAfter, went_in, last_answers, after_rounds, HasEnded, MachineFile, Status, IsHeld, IsDescribed, RefusesMachine, IsImageFor, RefusesImage, Fills, RefusesInput, AreLinks, RefusesLinks, cores_in, name_of, word_of, IsCoreFrom, as_core, CoreFileFails, CoreFails, HasCores, CoresFail, first_fault, rounds_status, NetPuts, NetReports, CoresReport}
 use Rattle.tta_code.specs.Cycle.{State}
 use Rattle.tta_load.specs.declared.status.Status.TheVariants as status
 use Rattle.tta_exit_laws.specs.Completes.{showing}
@@ -102,7 +102,7 @@ module _ (u : Units) (store : Store) (faults : ℕ) (latest : Option Fault) (aft
 
 -- ---- rounds
 
-module _ (net : Network State) (count : ℕ) (cs : List (Joined State)) (most : ℕ) where
+module _ (net : Network State) (count : ℕ) (cs : List (NetworkCore State)) (most : ℕ) where
   -- rounds that came to rest are as many as any that are made
   same_made : (a b : ℕ) → StopsAfter net count cs most a → StopsAfter net count cs most b → (i : ℕ) → a ≡ i + 1 → went_in net count cs i ≡ false → a ≡ b
   same_made a b stops also i is rests = elim (cases_lt a b) [
@@ -119,13 +119,13 @@ module _ (net : Network State) (count : ℕ) (cs : List (Joined State)) (most : 
   ]
 
   -- what is put of cores that rest at no fault
-  put_only : (last : List StepResult) (end : List (Joined State)) (old new : Output) (s : Status) → (Rose old.faults new.faults → ⊥)
+  put_only : (last : List StepResult) (end : List (NetworkCore State)) (old new : Output) (s : Status) → (Rose old.faults new.faults → ⊥)
       → first_fault (fault_at end) (length last) ≡ None → NetPuts false last end old new s → s ≡ status.Ok
   put_only last end old new status.WriteFault none sound ends = absurd (none ends.rose)
   put_only last end old new s none sound ends = ends.0 ∙ ap (rounds_status false) sound
 
   -- rounds that are made come to the same
-  rounds_only : (Rests : List (Joined State) → Type 0) (last turns : List StepResult) (is_running : Bool) (old new : Output) (s : Status)
+  rounds_only : (Rests : List (NetworkCore State) → Type 0) (last turns : List StepResult) (is_running : Bool) (old new : Output) (s : Status)
       → (Rose old.faults new.faults → ⊥) → HasEnded net count cs most false last (λ end. first_fault (fault_at end) (length last) ≡ None)
       → HasEnded net count cs most is_running turns (λ end. NetPuts is_running turns end old new s × Rests end) → s ≡ status.Ok
   rounds_only Rests last turns true old new s none a b =

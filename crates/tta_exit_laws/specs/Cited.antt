@@ -8,7 +8,7 @@ pub use Rattle.tta_build.specs.Statement.{HasCause, IsAccepted, IsBuilt, LacksRo
 pub use Rattle.tta_check.specs.Verdict.{IsUnsafe}
 pub use Rattle.tta_code.specs.Whole.{Whole, data_in}
 pub use Rattle.tta_kahn.specs.Cluster.{cycles, first_states}
-pub use Rattle.tta_kahn.specs.Network.{AreAtRest, Joined, Network, joined}
+pub use Rattle.tta_kahn.specs.Network.{AreAtRest, NetworkCore, Network, joined}
 pub use Rattle.tta_kahn.specs.declared.cores.Core.{Core}
 pub use Rattle.tta_debug.specs.Debugged.{Debugged}
 pub use Rattle.tta_inspect.specs.Circuits.{IsCircuitText, ShowsCircuit}
@@ -58,7 +58,7 @@ pub use Rattle.tta_net_command.specs.Net.{CoresReport, HasMadeRounds, NetPuts, N
 pub use Rattle.tta_ops.specs.Units.{Units}
 pub use Rattle.tta_ports.specs.Faults.{Rose}
 pub use Rattle.tta_ports.specs.Files.{HoldsMore}
-pub use Rattle.tta_ports.specs.Output.{IsCut, IsPut, IsQuiet, Output}
+pub use Rattle.tta_ports.specs.Output.{IsCut, IsPut, NothingOutput, Output}
 pub use Rattle.tta_ports.specs.Store.{Store}
 pub use Rattle.tta_ports.specs.World.{IsUntouched, World}
 pub use Rattle.tta_program.specs.Program.{data_of, first_outside}

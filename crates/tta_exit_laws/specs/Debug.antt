@@ -1,6 +1,6 @@
 -- How the command `debug` ends, by its status.
 use Rattle.std.specs.Prelude.{◌≡◌, ◌↔◌, ◌⊎◌, ℕ, false, List, Option, Err}
-use Rattle.tta_exit_laws.specs.Cited.{Store, World, IsUntouched, Output, IsQuiet, IsPut, IsCut, Units, is_fault, Debugged, input_of, stream_of, Refused, decoded_image, Status, HasText, ReadFailed, IsBadMachine, IsImageFor, HasPair, OfPair, PairFault, HasThree, OfNamed, Debugs, HasAsked, HasBytes, said}
+use Rattle.tta_exit_laws.specs.Cited.{Store, World, IsUntouched, Output, NothingOutput, IsPut, IsCut, Units, is_fault, Debugged, input_of, stream_of, Refused, decoded_image, Status, HasText, ReadFailed, IsBadMachine, IsImageFor, HasPair, OfPair, PairFault, HasThree, OfNamed, Debugs, HasAsked, HasBytes, said}
 use Rattle.tta_code.specs.Cycle.{Fault}
 use Rattle.tta_load.specs.declared.status.Status.TheVariants as status
 use Rattle.tta_load.specs.Held.{IsTooLong}
@@ -28,26 +28,26 @@ DebugEndings u M IMG IN SCRIPT STREAM before after old new status.Ok =
     IsUntouched before after
     × HasSession u before.contents M IMG IN SCRIPT STREAM (λ said. (is_fault said.1.state.outcome ≡ false) × IsPut said.0 old new)
 DebugEndings u M IMG IN SCRIPT STREAM before after old new (status.BadMachine line code) =
-    IsUntouched before after × IsQuiet old new × HasText before.contents M (λ text. IsBadMachine u text line code)
+    IsUntouched before after × NothingOutput old new × HasText before.contents M (λ text. IsBadMachine u text line code)
 DebugEndings u M IMG IN SCRIPT STREAM before after old new (status.BadImage code word bus) =
-    IsUntouched before after × IsQuiet old new
+    IsUntouched before after × NothingOutput old new
     × OfMachine u before.contents M (λ file. HasText before.contents IMG (λ bytes. decoded_image file.machine file.digest bytes ≡ Err (Refused code word bus)))
 DebugEndings u M IMG IN SCRIPT STREAM before after old new (status.BadInput line) =
-    IsUntouched before after × IsQuiet old new
+    IsUntouched before after × NothingOutput old new
     × OfPair u IsImageFor before.contents M IMG (λ file whole. HasText before.contents IN (λ bytes. input_of file.machine.data_words bytes ≡ Err line))
 DebugEndings u M IMG IN SCRIPT STREAM before after old new (status.BadStream line) =
-    IsUntouched before after × IsQuiet old new × HasThree u IsImageFor before.contents M IMG IN × HasBytes before.contents SCRIPT
+    IsUntouched before after × NothingOutput old new × HasThree u IsImageFor before.contents M IMG IN × HasBytes before.contents SCRIPT
     × OfNamed STREAM (λ name. HasText before.contents name (λ bytes. stream_of bytes ≡ Err line))
 DebugEndings u M IMG IN SCRIPT STREAM before after old new (status.MachineFault code cycle) =
     IsUntouched before after
     × HasSession u before.contents M IMG IN SCRIPT STREAM (λ said. (said.1.state.outcome ≡ Fault code cycle) × IsPut said.0 old new)
 DebugEndings u M IMG IN SCRIPT STREAM before after old new (status.ReadFault word) =
-    IsQuiet old new × SessionFault u before.contents M IMG IN SCRIPT STREAM (λ name. ReadFailed name before after) word
+    NothingOutput old new × SessionFault u before.contents M IMG IN SCRIPT STREAM (λ name. ReadFailed name before after) word
 DebugEndings u M IMG IN SCRIPT STREAM before after old new status.WriteFault =
     IsUntouched before after × HasSession u before.contents M IMG IN SCRIPT STREAM (λ said. IsCut said.0 old new)
 DebugEndings u M IMG IN SCRIPT STREAM before after old new (status.TooLong word) =
-    IsQuiet old new × SessionFault u before.contents M IMG IN SCRIPT STREAM (λ name. IsTooLong name before after) word
-DebugEndings u M IMG IN SCRIPT STREAM before after old new status.NoMemory = IsUntouched before after × IsQuiet old new
+    NothingOutput old new × SessionFault u before.contents M IMG IN SCRIPT STREAM (λ name. IsTooLong name before after) word
+DebugEndings u M IMG IN SCRIPT STREAM before after old new status.NoMemory = IsUntouched before after × NothingOutput old new
 DebugEndings u M IMG IN SCRIPT STREAM before after old new s = ⊥
 
 -- the clause of `debug` says this of each status

@@ -1,6 +1,6 @@
 -- What holds where the command `net` ends with a status, for each status.
 use Rattle.std.specs.Prelude.{◌≡◌, ◌↔◌, ◌⊎◌, ℕ, ◌<◌, Bool, true, false, List, length, Option, None, Some, Err}
-use Rattle.tta_exit_laws.specs.Cited.{Store, World, IsUntouched, Output, IsQuiet, IsPut, IsCut, input_of, Units, Refused, decoded_image, Core, Network, Joined, joined, AreAtRest, cycles, first_states, Feeds, links_of, StepResult, fault_at, HasEnded, Status, HasText, Held, ReadFailed, IsBadMachine, HasMachine, IsImageFor, HasPair, OfPair, AreLinks, cores_in, name_of, word_of, HasCores, net_text, first_fault, Nets}
+use Rattle.tta_exit_laws.specs.Cited.{Store, World, IsUntouched, Output, NothingOutput, IsPut, IsCut, input_of, Units, Refused, decoded_image, Core, Network, NetworkCore, joined, AreAtRest, cycles, first_states, Feeds, links_of, StepResult, fault_at, HasEnded, Status, HasText, Held, ReadFailed, IsBadMachine, HasMachine, IsImageFor, HasPair, OfPair, AreLinks, cores_in, name_of, word_of, HasCores, net_text, first_fault, Nets}
 use Rattle.tta_code.specs.Cycle.{State}
 use Rattle.tta_load.specs.declared.status.Status.TheVariants as status
 use Rattle.tta_load.specs.Held.{IsTooLong}
@@ -17,18 +17,18 @@ OfNet u files LINKS names Is =
 -- Cores that these feed have made rounds, and something is true of the last turn of each and of the states to which they have come.
 -- They are running where some core ran in each of the rounds that may be made; else the last round is one in which no core ran.
 pub record ComeTo (u : Units) (feeds : Feeds) (cores : List Core) (memories : List (List ℕ)) (rounds : ℕ) (is_running : Bool)
-    (Is : List StepResult → List (Joined State) → Type 0) : Type 0 where
+    (Is : List StepResult → List (NetworkCore State) → Type 0) : Type 0 where
   pub last : List StepResult
   pub ended : HasEnded (cycles u cores feeds) (length cores) (joined (first_states cores memories)) rounds is_running last (Is last)
 
 -- files hold all that is run, and something is true of the net, of the last turns and of the states to which its cores have come
 abbrev pub OfRounds : Units → (files : Option Store) → (rounds : ℕ) → (LINKS : List ℕ) → (names : List (List ℕ)) → (is_running : Bool)
-    → (Is : Network State → List StepResult → List (Joined State) → Type 0) → Type 0
+    → (Is : Network State → List StepResult → List (NetworkCore State) → Type 0) → Type 0
 OfRounds u files rounds LINKS names is_running Is =
     OfNet u files LINKS names (λ feeds cores memories. ComeTo u feeds cores memories rounds is_running (Is (cycles u cores feeds)))
 
 -- the fault of the least core that is at one, where these were the last turns
-abbrev pub least_fault : (last : List StepResult) → List (Joined State) → Option (ℕ × ℕ)
+abbrev pub least_fault : (last : List StepResult) → List (NetworkCore State) → Option (ℕ × ℕ)
 least_fault last cs = first_fault (fault_at cs) (length last)
 
 -- ---- which file of a core is at fault
@@ -84,17 +84,17 @@ NetEndings u rounds LINKS names before after old new status.WriteFault =
     IsUntouched before after
     × (is_running : Bool) × OfRounds u before.contents rounds LINKS names is_running (λ net last cs. IsCut (net_text cs last) old new)
 NetEndings u rounds LINKS names before after old new (status.BadLinks line code) =
-    IsUntouched before after × IsQuiet old new
+    IsUntouched before after × NothingOutput old new
     × HasText before.contents LINKS (λ bytes. links_of (cores_in (length names)) bytes ≡ Err (line, code))
 NetEndings u rounds LINKS names before after old new (status.BadCore word code) =
     let count = cores_in (length names) in
-    IsUntouched before after × IsQuiet old new × Held (AreLinks count) before.contents LINKS
+    IsUntouched before after × NothingOutput old new × Held (AreLinks count) before.contents LINKS
     × OfCore u before.contents names count (CoreRefused u before.contents names word code)
 NetEndings u rounds LINKS names before after old new (status.ReadFault word) =
-    IsQuiet old new × NetFault u before.contents LINKS names (λ name. ReadFailed name before after) word
+    NothingOutput old new × NetFault u before.contents LINKS names (λ name. ReadFailed name before after) word
 NetEndings u rounds LINKS names before after old new (status.TooLong word) =
-    IsQuiet old new × NetFault u before.contents LINKS names (λ name. IsTooLong name before after) word
-NetEndings u rounds LINKS names before after old new status.NoMemory = IsUntouched before after × IsQuiet old new
+    NothingOutput old new × NetFault u before.contents LINKS names (λ name. IsTooLong name before after) word
+NetEndings u rounds LINKS names before after old new status.NoMemory = IsUntouched before after × NothingOutput old new
 NetEndings u rounds LINKS names before after old new s = ⊥
 
 -- the clause of `net` says this of each status

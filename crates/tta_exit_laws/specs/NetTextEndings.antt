@@ -1,6 +1,6 @@
 -- What holds where the command `rtl net` ends with a status, for each status.
 use Rattle.std.specs.Prelude.{◌≡◌, ◌↔◌, ℕ, List, length, Option, Err}
-use Rattle.tta_exit_laws.specs.Cited.{Store, World, IsUntouched, Output, IsQuiet, IsPut, IsCut, Units, links_of, Status, HasText, Held, ReadFailed, AreLinks, cores_in, IsNetText, ShowsNet}
+use Rattle.tta_exit_laws.specs.Cited.{Store, World, IsUntouched, Output, NothingOutput, IsPut, IsCut, Units, links_of, Status, HasText, Held, ReadFailed, AreLinks, cores_in, IsNetText, ShowsNet}
 use Rattle.tta_inspect.specs.Depths.{depths_in}
 use Rattle.tta_load.specs.declared.status.Status.TheVariants as status
 use Rattle.tta_load.specs.Held.{IsTooLong}
@@ -20,17 +20,17 @@ NetTextEndings u depths LINKS names before after old new status.Ok =
 NetTextEndings u depths LINKS names before after old new status.WriteFault =
     IsUntouched before after × HasNetText u before.contents depths LINKS names (λ text. IsCut text old new)
 NetTextEndings u depths LINKS names before after old new (status.BadLinks line code) =
-    IsUntouched before after × IsQuiet old new
+    IsUntouched before after × NothingOutput old new
     × HasText before.contents LINKS (λ bytes. links_of (cores_in (length names)) bytes ≡ Err (line, code))
 NetTextEndings u depths LINKS names before after old new (status.BadCore word code) =
     let count = cores_in (length names) in
-    IsUntouched before after × IsQuiet old new × Held (AreLinks count) before.contents LINKS
+    IsUntouched before after × NothingOutput old new × Held (AreLinks count) before.contents LINKS
     × OfCore u before.contents names count (CoreRefused u before.contents names word code)
 NetTextEndings u depths LINKS names before after old new (status.ReadFault word) =
-    IsQuiet old new × NetFault u before.contents LINKS names (λ name. ReadFailed name before after) word
+    NothingOutput old new × NetFault u before.contents LINKS names (λ name. ReadFailed name before after) word
 NetTextEndings u depths LINKS names before after old new (status.TooLong word) =
-    IsQuiet old new × NetFault u before.contents LINKS names (λ name. IsTooLong name before after) word
-NetTextEndings u depths LINKS names before after old new status.NoMemory = IsUntouched before after × IsQuiet old new
+    NothingOutput old new × NetFault u before.contents LINKS names (λ name. IsTooLong name before after) word
+NetTextEndings u depths LINKS names before after old new status.NoMemory = IsUntouched before after × NothingOutput old new
 NetTextEndings u depths LINKS names before after old new s = ⊥
 
 -- the clause of `rtl net` says this of each status

@@ -1,6 +1,6 @@
 -- How the command `sample` ends, by its status.
 use Rattle.std.specs.Prelude.{◌≡◌, ◌↔◌, ℕ, List, Option}
-use Rattle.tta_exit_laws.specs.Cited.{Store, World, IsUntouched, Output, IsQuiet, IsPut, IsCut, Units, Machine, sample_text, Whole, IsBuilt, HasCause, Status, HasText, ReadFailed, IsBadMachine, IsProgramIn, IsBadProgram, IsOutside, CodeCompared, Samples, program_after, step_bound}
+use Rattle.tta_exit_laws.specs.Cited.{Store, World, IsUntouched, Output, NothingOutput, IsPut, IsCut, Units, Machine, sample_text, Whole, IsBuilt, HasCause, Status, HasText, ReadFailed, IsBadMachine, IsProgramIn, IsBadProgram, IsOutside, CodeCompared, Samples, program_after, step_bound}
 use Rattle.tta_program.specs.Program.{Program}
 use Rattle.tta_program.specs.Sequential as program
 use Rattle.tta_build.specs.declared.error.BuildError.TheVariants as cause
@@ -23,31 +23,31 @@ SampleEndings u seed lines M before after old new status.Ok =
     IsUntouched before after
     × OfCode u seed lines before.contents M (λ m p whole. CodeCompared u m p whole (step_bound lines) (λ text. IsPut text old new))
 SampleEndings u seed lines M before after old new (status.BadMachine line code) =
-    IsUntouched before after × IsQuiet old new × HasText before.contents M (λ text. IsBadMachine u text line code)
+    IsUntouched before after × NothingOutput old new × HasText before.contents M (λ text. IsBadMachine u text line code)
 SampleEndings u seed lines M before after old new (status.BadProgram line code) =
-    IsUntouched before after × IsQuiet old new × OfMachine u before.contents M (λ file. IsBadProgram u (sample_text seed lines) line code)
+    IsUntouched before after × NothingOutput old new × OfMachine u before.contents M (λ file. IsBadProgram u (sample_text seed lines) line code)
 SampleEndings u seed lines M before after old new (status.DataRange line have) =
-    IsUntouched before after × IsQuiet old new
+    IsUntouched before after × NothingOutput old new
     × OfMachine u before.contents M (λ file. IsOutside u file.machine.data_words (sample_text seed lines) line have)
 SampleEndings u seed lines M before after old new (status.NotCovered rule) =
-    IsUntouched before after × IsQuiet old new × OfSample u seed lines before.contents M (λ m p. HasCause u m p (cause.NotCovered rule))
+    IsUntouched before after × NothingOutput old new × OfSample u seed lines before.contents M (λ m p. HasCause u m p (cause.NotCovered rule))
 SampleEndings u seed lines M before after old new (status.NoUnit line) =
-    IsUntouched before after × IsQuiet old new × OfSample u seed lines before.contents M (λ m p. HasCause u m p (cause.NoUnit line))
+    IsUntouched before after × NothingOutput old new × OfSample u seed lines before.contents M (λ m p. HasCause u m p (cause.NoUnit line))
 SampleEndings u seed lines M before after old new (status.FrameFull need have) =
-    IsUntouched before after × IsQuiet old new × OfSample u seed lines before.contents M (λ m p. HasCause u m p (cause.FrameFull need have))
+    IsUntouched before after × NothingOutput old new × OfSample u seed lines before.contents M (λ m p. HasCause u m p (cause.FrameFull need have))
 SampleEndings u seed lines M before after old new (status.CodeFull words have) =
-    IsUntouched before after × IsQuiet old new × OfSample u seed lines before.contents M (λ m p. HasCause u m p (cause.CodeFull words have))
+    IsUntouched before after × NothingOutput old new × OfSample u seed lines before.contents M (λ m p. HasCause u m p (cause.CodeFull words have))
 SampleEndings u seed lines M before after old new status.Running =
-    IsUntouched before after × IsQuiet old new
+    IsUntouched before after × NothingOutput old new
     × OfCode u seed lines before.contents M (λ m p whole. (program_after u p m.data_words (step_bound lines)).outcome ≡ program.Running)
-SampleEndings u seed lines M before after old new (status.ReadFault word) = IsQuiet old new × (word ≡ 3) × ReadFailed M before after
+SampleEndings u seed lines M before after old new (status.ReadFault word) = NothingOutput old new × (word ≡ 3) × ReadFailed M before after
 SampleEndings u seed lines M before after old new status.WriteFault =
     IsUntouched before after
     × OfCode u seed lines before.contents M (λ m p whole. CodeCompared u m p whole (step_bound lines) (λ text. IsCut text old new))
-SampleEndings u seed lines M before after old new (status.TooLong word) = IsQuiet old new × (word ≡ 3) × IsTooLong M before after
-SampleEndings u seed lines M before after old new status.NoMemory = IsUntouched before after × IsQuiet old new
+SampleEndings u seed lines M before after old new (status.TooLong word) = NothingOutput old new × (word ≡ 3) × IsTooLong M before after
+SampleEndings u seed lines M before after old new status.NoMemory = IsUntouched before after × NothingOutput old new
 SampleEndings u seed lines M before after old new status.Waiting =
-    IsUntouched before after × IsQuiet old new
+    IsUntouched before after × NothingOutput old new
     × OfCode u seed lines before.contents M (λ m p whole. (program_after u p m.data_words (step_bound lines)).outcome ≡ program.Waiting)
 SampleEndings u seed lines M before after old new s = ⊥
 

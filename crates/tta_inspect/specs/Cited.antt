@@ -54,7 +54,7 @@ unfoldable pub use Rattle.tta_pages.specs.Pages.{stages_page}
 pub use Rattle.tta_origins.specs.Statement.{origins_text}
 pub use Rattle.tta_play.specs.Statement.{page_of}
 unfoldable pub use Rattle.tta_play.specs.Statement.{page_after}
-pub use Rattle.tta_ports.specs.Output.{IsCut, IsPut, IsQuiet, Output}
+pub use Rattle.tta_ports.specs.Output.{IsCut, IsPut, NothingOutput, Output}
 pub use Rattle.tta_ports.specs.Store.{Store}
 pub use Rattle.tta_ports.specs.World.{IsUntouched, World}
 pub use Rattle.tta_profile.specs.Statement.{IsProfile}

@@ -1,6 +1,6 @@
 -- How a command ends.
 use Rattle.std.specs.Prelude.{◌≡◌, ◌⊎◌, ◌↔◌, List, ℕ, Option, Some, None}
-use Rattle.tta_inspect.specs.Cited.{World, IsUntouched, Output, IsQuiet, IsPut, IsCut, Come, Units, Whole, MachineFile, Status, HasText, ReadFailed, IsTooLong, no_memory, IsBadMachine, HasMachine, MachineFails, IsImageFor, RefusesImage, IsUsage, TextEnds, Puts}
+use Rattle.tta_inspect.specs.Cited.{World, IsUntouched, Output, NothingOutput, IsPut, IsCut, Come, Units, Whole, MachineFile, Status, HasText, ReadFailed, IsTooLong, no_memory, IsBadMachine, HasMachine, MachineFails, IsImageFor, RefusesImage, IsUsage, TextEnds, Puts}
 use Rattle.tta_load.specs.declared.status.Status.TheVariants as status
 use Rattle.tta_load.specs.Endings as endings
 use Rattle.tta_inspect.specs.declared.view.View.{View}
@@ -17,7 +17,7 @@ use Rattle.tta_inspect.specs.Joining.{ShowsNet}
 -- the machine is refused, and nothing is output; or its view is
 abbrev pub ShowsMachine : Units → View → (M : List ℕ) → (before after : World) → (old new : Output) → Status → Type 0
 ShowsMachine u view M before after old new s =
-    (MachineFails u M 1 before after s × IsQuiet old new)
+    (MachineFails u M 1 before after s × NothingOutput old new)
     ⊎ ((m : HasMachine u before.contents M)
     × IsUntouched before after × TextEnds (λ text. text ≡ machine_view u view m.value) no_memory old new s)
 
@@ -52,12 +52,12 @@ abbrev pub MachineEndings : Units → View → (M : List ℕ) → (before after 
 MachineEndings u view M before after old new status.Ok =
     IsUntouched before after × endings.OfMachine u before.contents M (λ file. IsPut (machine_view u view file) old new)
 MachineEndings u view M before after old new (status.BadMachine line code) =
-    IsUntouched before after × IsQuiet old new × HasText before.contents M (λ text. IsBadMachine u text line code)
-MachineEndings u view M before after old new (status.ReadFault word) = IsQuiet old new × (word ≡ 1) × ReadFailed M before after
+    IsUntouched before after × NothingOutput old new × HasText before.contents M (λ text. IsBadMachine u text line code)
+MachineEndings u view M before after old new (status.ReadFault word) = NothingOutput old new × (word ≡ 1) × ReadFailed M before after
 MachineEndings u view M before after old new status.WriteFault =
     IsUntouched before after × endings.OfMachine u before.contents M (λ file. IsCut (machine_view u view file) old new)
-MachineEndings u view M before after old new (status.TooLong word) = IsQuiet old new × (word ≡ 1) × IsTooLong M before after
-MachineEndings u view M before after old new status.NoMemory = IsUntouched before after × IsQuiet old new
+MachineEndings u view M before after old new (status.TooLong word) = NothingOutput old new × (word ≡ 1) × IsTooLong M before after
+MachineEndings u view M before after old new status.NoMemory = IsUntouched before after × NothingOutput old new
 MachineEndings u view M before after old new s = ⊥
 
 -- what holds where `info M IMG` ends with a status

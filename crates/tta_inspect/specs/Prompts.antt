@@ -1,6 +1,6 @@
 -- What `prompt` does, and why it does not.
 use Rattle.std.specs.Prelude.{◌≡◌, ◌⊎◌, ◌↔◌, ℕ, List, [], Option, Result, Ok, Err}
-use Rattle.tta_inspect.specs.Cited.{input_of, stream_of, over, Store, World, IsUntouched, Output, IsQuiet, Come, Units, Machine, Whole, data_in, start, Refused, decoded_image, Debugged, Session', PromptError, LinesFailed, TooLong, NoMemory, SinkFailed, Prompts, MachineFile, Status, HasText, ReadFailed, IsTooLong, IsBadMachine, IsImageFor, RefusesImage, HasPair, PairFails, ReadsPair, HasGiven, OfPair, PairFault, HasThree, OfNamed, GivenFails, ReadsGiven}
+use Rattle.tta_inspect.specs.Cited.{input_of, stream_of, over, Store, World, IsUntouched, Output, NothingOutput, Come, Units, Machine, Whole, data_in, start, Refused, decoded_image, Debugged, Session', PromptError, LinesFailed, TooLong, NoMemory, SinkFailed, Prompts, MachineFile, Status, HasText, ReadFailed, IsTooLong, IsBadMachine, IsImageFor, RefusesImage, HasPair, PairFails, ReadsPair, HasGiven, OfPair, PairFault, HasThree, OfNamed, GivenFails, ReadsGiven}
 use Rattle.tta_code.specs.declared.code.Code.{Code}
 use Rattle.tta_load.specs.declared.status.Status.TheVariants as status
 use Rattle.tta_load.specs.Endings.{OfMachine}
@@ -31,7 +31,7 @@ FilesEnd u M IMG IN STREAM before after file whole memory words (Err s) = FilesF
 -- no line has come, and nothing was put
 pub record IsIdle (came comes : Come) (old new : Output) : Type 0 where
   pub lines : comes ≡ came
-  pub quiet : IsQuiet old new
+  pub quiet : NothingOutput old new
 
 -- what a session begins with: the run before its first cycle, and no breakpoints
 abbrev pub at_first : MachineFile → Whole → (memory words : List ℕ) → Debugged

@@ -113,7 +113,8 @@ pub fn put_picture<F: Files, S: Sink>(
     sink: &mut S,
     names: &PictureRequest<'_>,
 ) -> Status
-    ensures { ShowsPicture (stated unit_meaning units.now) names.now.machine.now names.now.subject.now
+    ensures { let U = stated unit_meaning units.now in
+        ShowsPicture U names.now.machine.now names.now.subject.now
         (F.world files.old) (F.world files.new) (S.output sink.old) (S.output sink.new) result }
 {
     match subject_pair(alloc, units, files, names.machine, names.subject) {

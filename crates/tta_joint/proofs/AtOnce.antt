@@ -4,7 +4,7 @@ use Rattle.std.specs.Prelude.{slice_get, if◌then◌else◌}
 use Rattle.std.proofs.lemmas.Bool.{and_parts, cases_eq, eq-eqb, ne_eqb, not-true, false≢true, or_right}
 use Rattle.std.proofs.lemmas.List.{drop-append-le}
 use Rattle.tta_list.specs.Prefix.{IsPrefixOf}
-use Rattle.tta_kahn.specs.Network.{Network, Joined, fed_to, after_step, stepped, turn, interleaved}
+use Rattle.tta_kahn.specs.Network.{Network, NetworkCore, fed_to, after_step, stepped, turn, interleaved}
 use Rattle.tta_kahn.specs.Queues.{UsesQueues}
 use Rattle.tta_kahn.proofs.Clusters.{fed_grows, next_core, turn_none, turn_here, turn_other, turn_grows}
 use Rattle.tta_joint.specs.Joint.{is_among, stand_once, StepAtOnce}
@@ -23,7 +23,7 @@ module _ {S : Type 0} (net : Network S) (uses : UsesQueues net) where
   -- ---- with more words
 
   -- a step that need not wait does the same with more words
-  pub step_more : (core : ℕ) (c : Joined S) (input words : List ℕ) → net.waits (after_step net core input c) ≡ false
+  pub step_more : (core : ℕ) (c : NetworkCore S) (input words : List ℕ) → net.waits (after_step net core input c) ≡ false
       → after_step net core (input ++ words) c ≡ net.with_rest (after_step net core input c)
       (net.rest (after_step net core input c) ++ words)
   step_more core c input words goes =
@@ -32,24 +32,24 @@ module _ {S : Type 0} (net : Network S) (uses : UsesQueues net) where
       ∙ uses.again c.state input (input ++ words)))
       ∙ uses.more core (net.with_rest c.state input) words goes
 
-  pub goes_more : (core : ℕ) (c : Joined S) (input words : List ℕ) → net.waits (after_step net core input c) ≡ false
+  pub goes_more : (core : ℕ) (c : NetworkCore S) (input words : List ℕ) → net.waits (after_step net core input c) ≡ false
       → net.waits (after_step net core (input ++ words) c) ≡ false
   goes_more core c input words goes =
       let next = after_step net core input c in
       ap net.waits (step_more core c input words goes) ∙ uses.waits_is next (net.rest next ++ words) ∙ goes
 
   -- a core after a step that did not wait
-  abbrev moved : (core : ℕ) (input : List ℕ) → Joined S → Joined S
+  abbrev moved : (core : ℕ) (input : List ℕ) → NetworkCore S → NetworkCore S
   moved core input c = record {
     state = net.with_rest (after_step net core input c) [];
     taken = c.taken + (length input - length (net.rest (after_step net core input c)));
   }
 
-  pub stepped_goes : (core : ℕ) (c : Joined S) (input : List ℕ) → net.waits (after_step net core input c) ≡ false
+  pub stepped_goes : (core : ℕ) (c : NetworkCore S) (input : List ℕ) → net.waits (after_step net core input c) ≡ false
       → stepped net core input c ≡ moved core input c
   stepped_goes core c input goes = ap (λ (b : Bool). if b then c else moved core input c) goes
 
-  pub stepped_more : (core : ℕ) (c : Joined S) (input words : List ℕ) → net.waits (after_step net core input c) ≡ false
+  pub stepped_more : (core : ℕ) (c : NetworkCore S) (input words : List ℕ) → net.waits (after_step net core input c) ≡ false
       → stepped net core (input ++ words) c ≡ stepped net core input c
   stepped_more core c input words goes =
       let next = after_step net core input c in
@@ -76,12 +76,12 @@ module _ {S : Type 0} (net : Network S) (uses : UsesQueues net) where
   -- ---- what a core is shown
 
   -- the step on its whole queue is the step on what it is shown
-  pub shown_step : (cores : List (Joined S)) (core : ℕ) (shown : List ℕ) (c : Joined S) → IsShown net cores core shown c
+  pub shown_step : (cores : List (NetworkCore S)) (core : ℕ) (shown : List ℕ) (c : NetworkCore S) → IsShown net cores core shown c
       → next_core net cores core c ≡ stepped net core shown c
   shown_step cores core shown c is = ap (λ ws. stepped net core ws c) is.begins ∙ stepped_more core c shown is.later is.goes
 
   -- and it is shown that where its feeder has output more
-  shown_more : (cores later : List (Joined S)) (core : ℕ) (shown : List ℕ) (c : Joined S)
+  shown_more : (cores later : List (NetworkCore S)) (core : ℕ) (shown : List ℕ) (c : NetworkCore S)
       → IsPrefixOf (fed_to net cores core) (fed_to net later core)
       → IsShown net cores core shown c → IsShown net later core shown c
   shown_more cores later core shown c begins is = record {
@@ -97,8 +97,8 @@ module _ {S : Type 0} (net : Network S) (uses : UsesQueues net) where
 
   -- ---- one after another
 
-  abbrev AreShown : (shown : ℕ → List ℕ) → (going : List ℕ) → List (Joined S) → Type 0
-  AreShown shown going cores = (core : ℕ) (c : Joined S) → is_among core going ≡ true → slice_get cores core ≡ Some c
+  abbrev AreShown : (shown : ℕ → List ℕ) → (going : List ℕ) → List (NetworkCore S) → Type 0
+  AreShown shown going cores = (core : ℕ) (c : NetworkCore S) → is_among core going ≡ true → slice_get cores core ≡ Some c
       → IsShown net cores core (shown core) c
 
   -- no core among others is one that is not
@@ -107,7 +107,7 @@ module _ {S : Type 0} (net : Network S) (uses : UsesQueues net) where
       absurd (false≢true (sym (not-true (is_among core going) absent) ∙ ap (λ c. is_among c going) same ∙ among))
 
   -- after one core's step the others are shown the same
-  rest_shown : (shown : ℕ → List ℕ) (core : ℕ) (going : List ℕ) (cores : List (Joined S)) → not (is_among core going) ≡ true
+  rest_shown : (shown : ℕ → List ℕ) (core : ℕ) (going : List ℕ) (cores : List (NetworkCore S)) → not (is_among core going) ≡ true
       → AreShown shown (core ∷ going) cores
       → AreShown shown going (turn net cores core)
   rest_shown shown core going cores absent are k c among there =
@@ -116,10 +116,10 @@ module _ {S : Type 0} (net : Network S) (uses : UsesQueues net) where
       (are k c (or_right (core == k) (is_among k going) among) (sym (turn_other net cores core k apart) ∙ there))
 
   -- where a core is after one turn and more, of which this is known
-  one_turn : (shown : ℕ → List ℕ) (core : ℕ) (going : List ℕ) (cores : List (Joined S)) → not (is_among core going) ≡ true
-      → AreShown shown (core ∷ going) cores → (k : ℕ) (c : Joined S)
+  one_turn : (shown : ℕ → List ℕ) (core : ℕ) (going : List ℕ) (cores : List (NetworkCore S)) → not (is_among core going) ≡ true
+      → AreShown shown (core ∷ going) cores → (k : ℕ) (c : NetworkCore S)
       → slice_get cores k ≡ Some c
-      → ((d : Joined S) → slice_get (turn net cores core) k ≡ Some d
+      → ((d : NetworkCore S) → slice_get (turn net cores core) k ≡ Some d
       → slice_get (interleaved net cores (core ∷ going)) k ≡ Some (if is_among k going then stepped net k (shown k) d else d))
       → slice_get (interleaved net cores (core ∷ going)) k ≡ Some (if is_among k (core ∷ going) then stepped net k (shown k) c else c)
   one_turn shown core going cores absent are k c there go_on = ⊎_elim here other (cases_eq core k) where
@@ -143,8 +143,8 @@ module _ {S : Type 0} (net : Network S) (uses : UsesQueues net) where
         ∙ sym (ap (λ b. Some (if b || is_among k going then stepped net k (shown k) c else c)) (ne_eqb core k apart))
 
   -- each core then is where its own step leads
-  pub in_turn : (shown : ℕ → List ℕ) (going : List ℕ) (cores : List (Joined S)) → stand_once going ≡ true → AreShown shown going cores
-      → (k : ℕ) (c : Joined S)
+  pub in_turn : (shown : ℕ → List ℕ) (going : List ℕ) (cores : List (NetworkCore S)) → stand_once going ≡ true → AreShown shown going cores
+      → (k : ℕ) (c : NetworkCore S)
       → slice_get cores k ≡ Some c
       → slice_get (interleaved net cores going) k ≡ Some (if is_among k going then stepped net k (shown k) c else c)
   in_turn shown [] cores apart are k c there = there
@@ -154,7 +154,7 @@ module _ {S : Type 0} (net : Network S) (uses : UsesQueues net) where
       (λ d at. in_turn shown going (turn net cores core) parts.1 (rest_shown shown core going cores parts.0 are) k d at)
 
   -- and no core comes to be
-  pub none_in_turn : (going : List ℕ) (cores : List (Joined S)) (k : ℕ) → slice_get cores k ≡ None
+  pub none_in_turn : (going : List ℕ) (cores : List (NetworkCore S)) (k : ℕ) → slice_get cores k ≡ None
       → slice_get (interleaved net cores going) k ≡ None
   none_in_turn [] cores k none = none
   none_in_turn (core ∷ going) cores k none = none_in_turn going (turn net cores core) k (⊎_elim here other (cases_eq core k)) where
@@ -164,12 +164,12 @@ module _ {S : Type 0} (net : Network S) (uses : UsesQueues net) where
     other : core ≢ k → slice_get (turn net cores core) k ≡ None
     other apart = turn_other net cores core k apart ∙ none
 
-  pub interleave : (shown : ℕ → List ℕ) (going : List ℕ) (before after : List (Joined S)) → stand_once going ≡ true
+  pub interleave : (shown : ℕ → List ℕ) (going : List ℕ) (before after : List (NetworkCore S)) → stand_once going ≡ true
       → AreShown shown going before
       → StepAtOnce net shown going before after → after ≡ interleaved net before going
   interleave shown going before after apart are step =
       same_places after (interleaved net before going) (λ k. by k (slice_get before k) refl) where
-        by : (k : ℕ) (o : Option (Joined S)) → slice_get before k ≡ o → slice_get after k ≡ slice_get (interleaved net before going) k
+        by : (k : ℕ) (o : Option (NetworkCore S)) → slice_get before k ≡ o → slice_get after k ≡ slice_get (interleaved net before going) k
         by k None none = step.none k none ∙ sym (none_in_turn going before k none)
         by k (Some c) there = step.some k c there ∙ sym (in_turn shown going before apart are k c there)
 

@@ -13,7 +13,7 @@ use Rattle.tta_queue.proofs.Clocking.{queue_clocks}
 use Rattle.tta_queue.proofs.Running.{waited, first_word, none_inside}
 use Rattle.tta_list.specs.Prefix.{IsPrefixOf}
 use Rattle.tta_list.proofs.Prefixes.{prefix_same, prefix_chain}
-use Rattle.tta_kahn.specs.Network.{Network, Joined, output_of, feeder_of, fed_to, stepped, turn, interleaved, joined}
+use Rattle.tta_kahn.specs.Network.{Network, NetworkCore, output_of, feeder_of, fed_to, stepped, turn, interleaved, joined}
 use Rattle.tta_kahn.specs.Queues.{UsesQueues}
 use Rattle.tta_joint.specs.Joint.{is_among, seen, new_words, CoresClock, where_came, HaveCome, come_with, steps_by, waiting_for}
 use Rattle.tta_joint.specs.Laws.{IsShown, IsQueued, AreQueued, JointClock, come_by, HaveJoined, JointRuns}
@@ -43,7 +43,7 @@ more_of false taken fed new within =
 
 module _ {S : Type 0} (net : Network S) (came : ℕ → List ℕ) (begins : HaveCome net came) where
   -- what is fed to a core so far begins all that is
-  pub fed_begins : (cores : List (Joined S)) (core : ℕ) → IsPrefixOf (fed_to (where_came net came) cores core) (fed_to net cores core)
+  pub fed_begins : (cores : List (NetworkCore S)) (core : ℕ) → IsPrefixOf (fed_to (where_came net came) cores core) (fed_to net cores core)
   fed_begins cores core = by (feeder_of net core) refl where
     by : (o : Option ℕ) → feeder_of net core ≡ o
         → IsPrefixOf (option_map_or (output_of net cores) o (came core)) (option_map_or (output_of net cores) o (net.given core))
@@ -51,14 +51,14 @@ module _ {S : Type 0} (net : Network S) (came : ℕ → List ℕ) (begins : Have
     by (Some feeder) is = prefix_same _ _ refl
 
   -- and so what is left for it
-  pub left_begins : (cores : List (Joined S)) (core : ℕ) (c : Joined S) → c.taken ≤ length (fed_to (where_came net came) cores core)
+  pub left_begins : (cores : List (NetworkCore S)) (core : ℕ) (c : NetworkCore S) → c.taken ≤ length (fed_to (where_came net came) cores core)
       → IsPrefixOf (waiting_for (where_came net came) cores core c) (waiting_for net cores core c)
   left_begins cores core c within =
       let more = fed_begins cores core in
       (more.0, ap (drop c.taken) more.1 ∙ drop-append-le c.taken (fed_to (where_came net came) cores core) more.0 within)
 
   -- so a core that is shown how the one begins is shown how the other does
-  pub shown_of_all : (cores : List (Joined S)) (core : ℕ) (shown : List ℕ) (c : Joined S)
+  pub shown_of_all : (cores : List (NetworkCore S)) (core : ℕ) (shown : List ℕ) (c : NetworkCore S)
       → IsShown (where_came net came) cores core shown c → IsShown net cores core shown c
   shown_of_all cores core shown c is =
       let fed = fed_begins cores core in
@@ -79,7 +79,7 @@ came_before net came env have core none =
     prefix_chain (came core) (come_with came env core) (net.given core) (new_words (env core), refl) (have core none)
 
 module _ {S : Type 0} (net : Network S) (uses : UsesQueues net) (came : ℕ → List ℕ) (begins : HaveCome net came) (u : Units) (k : ℕ → ℕ)
-    (width : ℕ) (h : ℕ → Held Pin Store) (inputs : ℕ → Pin → ℕ) (going : List ℕ) (before after : List (Joined S))
+    (width : ℕ) (h : ℕ → Held Pin Store) (inputs : ℕ → Pin → ℕ) (going : List ℕ) (before after : List (NetworkCore S))
     (queued : AreQueued k h (where_came net came) before) (on : (core : ℕ) → is_set (inputs core IsReset) ≡ false)
     (clock : CoresClock net (λ core. settled same_pin u (queue_of (k core) width) (h core) (inputs core)) going before after) where
   abbrev env : ℕ → Pin → ℕ
@@ -94,7 +94,7 @@ module _ {S : Type 0} (net : Network S) (uses : UsesQueues net) (came : ℕ → 
   abbrev later : ℕ → Held Pin Store
   later core = clocked same_pin same_store u (queue_of (k core) width) (env core) (h core)
 
-  shows : (core : ℕ) (c : Joined S) → slice_get before core ≡ Some c → Shows (k core) (env core) (waiting_for so_far before core c)
+  shows : (core : ℕ) (c : NetworkCore S) → slice_get before core ≡ Some c → Shows (k core) (env core) (waiting_for so_far before core c)
   shows core c there =
       (queue_clocks u (k core) width (h core) (waiting_for so_far before core c) (inputs core) (queued core c there).inside (on core)).0
 
@@ -118,13 +118,13 @@ module _ {S : Type 0} (net : Network S) (uses : UsesQueues net) (came : ℕ → 
     by (Some feeder) is = clock.puts core feeder is
 
   -- the core that a core comes to be has taken what its queue gave
-  record HasTaken (core : ℕ) (c d : Joined S) : Type 0 where
+  record HasTaken (core : ℕ) (c d : NetworkCore S) : Type 0 where
     count : d.taken ≡ c.taken + bit (gives (env core))
     there : slice_get after core ≡ Some d
 
-  takes_so : (core : ℕ) (c : Joined S) → slice_get before core ≡ Some c → (d : Joined S) × HasTaken core c d
+  takes_so : (core : ℕ) (c : NetworkCore S) → slice_get before core ≡ Some c → (d : NetworkCore S) × HasTaken core c d
   takes_so core c there = by (is_among core going) refl where
-    by : (b : Bool) → is_among core going ≡ b → (d : Joined S) × HasTaken core c d
+    by : (b : Bool) → is_among core going ≡ b → (d : NetworkCore S) × HasTaken core c d
     by false out = (
       c,
       record {
@@ -136,7 +136,7 @@ module _ {S : Type 0} (net : Network S) (uses : UsesQueues net) (came : ℕ → 
         let goes = clock.goes core c among there in (
           stepped net core (seen (env core)) c,
           record {
-            count = ap (λ (d : Joined S). d.taken) (stepped_goes net uses core c (seen (env core)) goes)
+            count = ap (λ (d : NetworkCore S). d.taken) (stepped_goes net uses core c (seen (env core)) goes)
                 ∙ ap (λ n. c.taken + n) (used (gives (env core)) refl (clock.asks core c among there));
             there = clock.at_once.some core c there ∙ ap (λ (b : Bool). Some (if b then stepped net core (seen (env core)) c else c)) among;
           },
@@ -151,7 +151,7 @@ module _ {S : Type 0} (net : Network S) (uses : UsesQueues net) (came : ℕ → 
   -- and so its queue has what it has not taken
   one_queued : AreQueued k later so_then after
   one_queued core d at = by (slice_get before core) refl where
-    by : (o : Option (Joined S)) → slice_get before core ≡ o → IsQueued (k core) (later core) so_then after core d
+    by : (o : Option (NetworkCore S)) → slice_get before core ≡ o → IsQueued (k core) (later core) so_then after core d
     by None none = absurd (let e : Some d ≡ None = sym at ∙ clock.at_once.none core none in cc)
     by (Some c) there =
         let next = takes_so core c there in
@@ -160,7 +160,7 @@ module _ {S : Type 0} (net : Network S) (uses : UsesQueues net) (came : ℕ → 
         let fed = fed_to so_far before core in
         let new = new_words (env core) in
         let within : c.taken + bit (gives (env core)) ≤ length fed = room (gives (env core)) refl in
-        let count : d.taken ≡ c.taken + bit (gives (env core)) = sym (ap (λ (x : Joined S). x.taken) same) ∙ next.1.count in
+        let count : d.taken ≡ c.taken + bit (gives (env core)) = sym (ap (λ (x : NetworkCore S). x.taken) same) ∙ next.1.count in
         let longer : length (fed_to so_then after core) ≡ length fed + length new = ap length (fed_more core) ∙ length-append fed new in
         let words : waiting_for so_then after core d ≡ after_clock (gives (env core)) (takes (env core)) (inputs core InData)
         (waiting_for so_far before core c) =
@@ -195,9 +195,9 @@ joint_clock S net uses came begins u k width h inputs going before after queued 
 -- ---- many clocks
 
 -- cores that have made no step, of which none has output anything, have taken nothing, and nothing is fed to them where nothing has come
-pub untaken : {S : Type 0} (starts : List S) (core : ℕ) (c : Joined S) → slice_get (joined starts) core ≡ Some c → c.taken ≡ 0
+pub untaken : {S : Type 0} (starts : List S) (core : ℕ) (c : NetworkCore S) → slice_get (joined starts) core ≡ Some c → c.taken ≡ 0
 untaken [] core c is = absurd cc
-untaken (s ∷ starts) zero c is = let e : record { state = s; taken = 0 } ≡ c = cc in sym (ap (λ (x : Joined _). x.taken) e)
+untaken (s ∷ starts) zero c is = let e : record { state = s; taken = 0 } ≡ c = cc in sym (ap (λ (x : NetworkCore _). x.taken) e)
 untaken (s ∷ starts) (suc core) c is = untaken starts core c is
 
 pub unfed : {S : Type 0} (net : Network S) (starts : List S) → ((core : ℕ) → output_of net (joined starts) core ≡ [])
@@ -220,7 +220,7 @@ first_queued net starts silent given k h empty core c at =
 module _ {S : Type 0} (net : Network S) (uses : UsesQueues net) (starts : List S)
     (silent : (core : ℕ) → output_of net (joined starts) core ≡ [])
     (u : Units) (k : ℕ → ℕ) (width : ℕ) (powers : ℕ → Pin → ℕ) (inputs : ℕ → ℕ → Pin → ℕ) (last : ℕ)
-    (anew : (core : ℕ) → BeginUpTo last (inputs core)) (going : ℕ → List ℕ) (cores : ℕ → List (Joined S)) (begins : cores 0 ≡ joined starts)
+    (anew : (core : ℕ) → BeginUpTo last (inputs core)) (going : ℕ → List ℕ) (cores : ℕ → List (NetworkCore S)) (begins : cores 0 ≡ joined starts)
     (clock : (n : ℕ) → CoresClock net (λ core. pins u (k core) width (powers core) (inputs core) (suc (last + n))) (going n) (cores n)
     (cores (suc n))) where
   abbrev held : ℕ → ℕ → Held Pin Store
@@ -229,7 +229,7 @@ module _ {S : Type 0} (net : Network S) (uses : UsesQueues net) (starts : List S
   abbrev come : ℕ → ℕ → List ℕ
   come t = come_by u k width powers inputs t
 
-  abbrev Queued : ℕ → List (Joined S) → Type 0
+  abbrev Queued : ℕ → List (NetworkCore S) → Type 0
   Queued t joined = AreQueued k (held t) (where_came net (come t)) joined
 
   at_first : Queued (suc last) (joined starts)

@@ -4,7 +4,7 @@ use Rattle.tta_circuit.specs.Meaning.{is_set}
 use Rattle.tta_queue.specs.Queue.{Pin, InData, OutValid, OutData}
 use Rattle.tta_queue.specs.Laws.{takes, gives}
 use Rattle.tta_list.specs.Prefix.{IsPrefixOf}
-use Rattle.tta_kahn.specs.Network.{Network, Joined, output_of, feeder_of, fed_to, after_step, stepped}
+use Rattle.tta_kahn.specs.Network.{Network, NetworkCore, output_of, feeder_of, fed_to, after_step, stepped}
 
 -- ---- which cores step
 
@@ -19,8 +19,8 @@ stand_once [] = true
 stand_once (c ∷ cs) = not (is_among c cs) && stand_once cs
 
 -- Some cores make a step at once, each on words that it is shown, and the others stay.
-pub record StepAtOnce {S : Type 0} (net : Network S) (shown : ℕ → List ℕ) (going : List ℕ) (before after : List (Joined S)) : Type 0 where
-  pub some : (core : ℕ) (c : Joined S) → slice_get before core ≡ Some c
+pub record StepAtOnce {S : Type 0} (net : Network S) (shown : ℕ → List ℕ) (going : List ℕ) (before after : List (NetworkCore S)) : Type 0 where
+  pub some : (core : ℕ) (c : NetworkCore S) → slice_get before core ≡ Some c
       → slice_get after core ≡ Some (if is_among core going then stepped net core (shown core) c else c)
   pub none : (core : ℕ) → slice_get before core ≡ None → slice_get after core ≡ None
 
@@ -37,12 +37,12 @@ new_words env = if takes env then env InData ∷ [] else []
 -- A clock of cores, where these are the signals of each core's queue: each core that steps does so on what it sees, and does not wait;
 -- its queue gives the word that it takes; and the queue of each core takes what its feeder outputs. The queue of a core that no other
 -- feeds takes words from outside.
-pub record CoresClock {S : Type 0} (net : Network S) (env : ℕ → Pin → ℕ) (going : List ℕ) (before after : List (Joined S)) : Type 0 where
+pub record CoresClock {S : Type 0} (net : Network S) (env : ℕ → Pin → ℕ) (going : List ℕ) (before after : List (NetworkCore S)) : Type 0 where
   pub apart : stand_once going ≡ true
   pub at_once : StepAtOnce net (λ core. seen (env core)) going before after
-  pub goes : (core : ℕ) (c : Joined S) → is_among core going ≡ true → slice_get before core ≡ Some c
+  pub goes : (core : ℕ) (c : NetworkCore S) → is_among core going ≡ true → slice_get before core ≡ Some c
       → net.waits (after_step net core (seen (env core)) c) ≡ false
-  pub asks : (core : ℕ) (c : Joined S) → is_among core going ≡ true → slice_get before core ≡ Some c
+  pub asks : (core : ℕ) (c : NetworkCore S) → is_among core going ≡ true → slice_get before core ≡ Some c
       → net.rest (after_step net core (seen (env core)) c) ≡ (if gives (env core) then [] else seen (env core))
   pub stays : (core : ℕ) → is_among core going ≡ false → gives (env core) ≡ false
   pub puts : (core feeder : ℕ) → feeder_of net core ≡ Some feeder
@@ -70,5 +70,5 @@ steps_by going zero = []
 steps_by going (suc n) = steps_by going n ++ going n
 
 -- what is left for a core: what its feeder has output, or it is given from outside, and it has not taken
-abbrev pub waiting_for : {S : Type 0} → Network S → List (Joined S) → (core : ℕ) → Joined S → List ℕ
+abbrev pub waiting_for : {S : Type 0} → Network S → List (NetworkCore S) → (core : ℕ) → NetworkCore S → List ℕ
 waiting_for net cores core c = drop c.taken (fed_to net cores core)

@@ -6,18 +6,18 @@ use Rattle.std.proofs.lemmas.Option.{slice_get_within}
 use Rattle.std.proofs.lemmas.Bool.{cases_eq}
 use Rattle.tta_list.proofs.Prefixes.{prefix_same, prefix_chain}
 use Rattle.tta_kahn.specs.Cited.{IsPrefixOf}
-use Rattle.tta_kahn.specs.Network.{Network, Joined, output_of, feeder_of, fed_to, after_step, stepped, turn, interleaved}
+use Rattle.tta_kahn.specs.Network.{Network, NetworkCore, output_of, feeder_of, fed_to, after_step, stepped, turn, interleaved}
 use Rattle.tta_kahn.specs.Queues.{UsesQueues}
 use Rattle.tta_kahn.proofs.Turns.{IsPast, past_longer, past_next}
 use Rattle.tta_list.proofs.Sets.{set_same as get_set_same, set_other as get_set_other}
 
 module _ {S : Type 0} (net : Network S) where
   -- what a core of a cluster has output
-  pub output_at : (cores : List (Joined S)) (core : ℕ) (c : Joined S) → slice_get cores core ≡ Some c → output_of net cores core ≡ net.output c.state
+  pub output_at : (cores : List (NetworkCore S)) (core : ℕ) (c : NetworkCore S) → slice_get cores core ≡ Some c → output_of net cores core ≡ net.output c.state
   output_at cores core c there = ap (λ o. option_map_or (λ x. net.output x.state) o []) there
 
   -- what feeds a core grows where outputs do
-  pub fed_grows : (cores later : List (Joined S)) → ((core : ℕ) → IsPrefixOf (output_of net cores core) (output_of net later core)) → (core : ℕ)
+  pub fed_grows : (cores later : List (NetworkCore S)) → ((core : ℕ) → IsPrefixOf (output_of net cores core) (output_of net later core)) → (core : ℕ)
       → IsPrefixOf (fed_to net cores core) (fed_to net later core)
   fed_grows cores later grows core = by (feeder_of net core) where
     by : (o : Option ℕ)
@@ -28,33 +28,33 @@ module _ {S : Type 0} (net : Network S) where
   -- ---- one step
 
   -- a core of a cluster once it has stepped
-  abbrev pub next_core : List (Joined S) → (core : ℕ) → Joined S → Joined S
+  abbrev pub next_core : List (NetworkCore S) → (core : ℕ) → NetworkCore S → NetworkCore S
   next_core cores core c = stepped net core (drop c.taken (fed_to net cores core)) c
 
-  pub turn_none : (cores : List (Joined S)) (core : ℕ) → slice_get cores core ≡ None → turn net cores core ≡ cores
+  pub turn_none : (cores : List (NetworkCore S)) (core : ℕ) → slice_get cores core ≡ None → turn net cores core ≡ cores
   turn_none cores core none = ap (λ o. option_map_or (λ c. slice_set cores core (next_core cores core c)) o cores) none
 
-  pub turn_some : (cores : List (Joined S)) (core : ℕ) (c : Joined S) → slice_get cores core ≡ Some c → turn net cores core ≡ slice_set cores core (next_core cores core c)
+  pub turn_some : (cores : List (NetworkCore S)) (core : ℕ) (c : NetworkCore S) → slice_get cores core ≡ Some c → turn net cores core ≡ slice_set cores core (next_core cores core c)
   turn_some cores core c there = ap (λ o. option_map_or (λ c. slice_set cores core (next_core cores core c)) o cores) there
 
-  pub turn_here : (cores : List (Joined S)) (core : ℕ) (c : Joined S) → slice_get cores core ≡ Some c → slice_get (turn net cores core) core ≡ Some (next_core cores core c)
+  pub turn_here : (cores : List (NetworkCore S)) (core : ℕ) (c : NetworkCore S) → slice_get cores core ≡ Some c → slice_get (turn net cores core) core ≡ Some (next_core cores core c)
   turn_here cores core c there =
       ap (λ cs. slice_get cs core) (turn_some cores core c there) ∙ get_set_same cores core (next_core cores core c) (slice_get_within cores core c there)
 
-  pub turn_other : (cores : List (Joined S)) (core k : ℕ) → core ≢ k → slice_get (turn net cores core) k ≡ slice_get cores k
+  pub turn_other : (cores : List (NetworkCore S)) (core k : ℕ) → core ≢ k → slice_get (turn net cores core) k ≡ slice_get cores k
   turn_other cores core k apart = by (slice_get cores core) refl where
-    by : (o : Option (Joined S)) → slice_get cores core ≡ o → slice_get (turn net cores core) k ≡ slice_get cores k
+    by : (o : Option (NetworkCore S)) → slice_get cores core ≡ o → slice_get (turn net cores core) k ≡ slice_get cores k
     by None none = ap (λ cs. slice_get cs k) (turn_none cores core none)
     by (Some c) there = ap (λ cs. slice_get cs k) (turn_some cores core c there) ∙ get_set_other cores core k (next_core cores core c) apart
 
   module _ (uses : UsesQueues net) where
     -- a core's step only adds to its output
-    pub stepped_grows : (core : ℕ) (input : List ℕ) (c : Joined S) → IsPrefixOf (net.output c.state) (net.output (stepped net core input c).state)
+    pub stepped_grows : (core : ℕ) (input : List ℕ) (c : NetworkCore S) → IsPrefixOf (net.output c.state) (net.output (stepped net core input c).state)
     stepped_grows core input c = by (net.waits next) where
       next : S
       next = after_step net core input c
 
-      new : Joined S
+      new : NetworkCore S
       new = record { state = net.with_rest next []; taken = c.taken + (length input - length (net.rest next)) }
 
       by : (b : Bool) → IsPrefixOf (net.output c.state) (net.output (if b then c else new).state)
@@ -64,12 +64,12 @@ module _ {S : Type 0} (net : Network S) where
           (prefix_chain _ _ _ (uses.grows core (net.with_rest c.state input)) (prefix_same _ _ (sym (uses.output_is next []))))
 
     -- what each core has output grows with each step
-    pub turn_grows : (cores : List (Joined S)) (core k : ℕ) → IsPrefixOf (output_of net cores k) (output_of net (turn net cores core) k)
+    pub turn_grows : (cores : List (NetworkCore S)) (core k : ℕ) → IsPrefixOf (output_of net cores k) (output_of net (turn net cores core) k)
     turn_grows cores core k = elim (cases_eq core k) as (λ e. IsPrefixOf (output_of net cores k) (output_of net (turn net cores core) k)) [
       | inl same ↦ subst (λ (j : ℕ). IsPrefixOf (output_of net cores j) (output_of net (turn net cores core) j)) same (here (slice_get cores core) refl)
       | inr apart ↦ prefix_same _ _ (ap (λ o. option_map_or (λ c. net.output c.state) o []) (sym (turn_other cores core k apart)))
     ] where
-      here : (o : Option (Joined S)) → slice_get cores core ≡ o → IsPrefixOf (output_of net cores core) (output_of net (turn net cores core) core)
+      here : (o : Option (NetworkCore S)) → slice_get cores core ≡ o → IsPrefixOf (output_of net cores core) (output_of net (turn net cores core) core)
       here None none = prefix_same _ _ (ap (λ cs. output_of net cs core) (sym (turn_none cores core none)))
       here (Some c) there =
           prefix_chain _ _ _ (prefix_same _ _ (output_at cores core c there))
@@ -77,26 +77,26 @@ module _ {S : Type 0} (net : Network S) where
           (prefix_same _ _ (sym (output_at (turn net cores core) core (next_core cores core c) (turn_here cores core c there)))))
 
     -- and so with any steps
-    pub interleaved_grows : (cores : List (Joined S)) (steps : List ℕ) (k : ℕ) → IsPrefixOf (output_of net cores k) (output_of net (interleaved net cores steps) k)
+    pub interleaved_grows : (cores : List (NetworkCore S)) (steps : List ℕ) (k : ℕ) → IsPrefixOf (output_of net cores k) (output_of net (interleaved net cores steps) k)
     interleaved_grows cores [] k = prefix_same _ _ refl
     interleaved_grows cores (core ∷ steps) k = prefix_chain _ _ _ (turn_grows cores core k) (interleaved_grows (turn net cores core) steps k)
 
 -- ---- the past of each core
 
 -- A core of a cluster began in this state, and has made so many steps since.
-pub record HasMade {S : Type 0} (net : Network S) (cores : List (Joined S)) (core : ℕ) (s : S) (made : ℕ) : Type 0 where
-  pub now : Joined S
+pub record HasMade {S : Type 0} (net : Network S) (cores : List (NetworkCore S)) (core : ℕ) (s : S) (made : ℕ) : Type 0 where
+  pub now : NetworkCore S
   pub there : slice_get cores core ≡ Some now
   pub past : IsPast net core s (fed_to net cores core) now made
 
 -- Each core of a cluster began in its state, and there are no others.
-pub record HavePast {S : Type 0} (net : Network S) (starts : List S) (cores : List (Joined S)) : Type 0 where
+pub record HavePast {S : Type 0} (net : Network S) (starts : List S) (cores : List (NetworkCore S)) : Type 0 where
   pub each : (core : ℕ) (s : S) → slice_get starts core ≡ Some s → (made : ℕ) × HasMade net cores core s made
   pub none : (core : ℕ) → slice_get starts core ≡ None → slice_get cores core ≡ None
 
 module _ {S : Type 0} (net : Network S) (uses : UsesQueues net) where
   -- a core's past after a step of another, or of its own that waits
-  made_beside : (cores later : List (Joined S)) (core : ℕ) (s : S) (made : ℕ) → ((k : ℕ) → IsPrefixOf (output_of net cores k) (output_of net later k))
+  made_beside : (cores later : List (NetworkCore S)) (core : ℕ) (s : S) (made : ℕ) → ((k : ℕ) → IsPrefixOf (output_of net cores k) (output_of net later k))
       → slice_get later core ≡ slice_get cores core → HasMade net cores core s made → HasMade net later core s made
   made_beside cores later core s made grows same has = record {
     now = has.now;
@@ -105,7 +105,7 @@ module _ {S : Type 0} (net : Network S) (uses : UsesQueues net) where
   }
 
   -- a step that does not wait is one more
-  pub made_one : (cores : List (Joined S)) (core : ℕ) (s : S) (made : ℕ) (has : HasMade net cores core s made)
+  pub made_one : (cores : List (NetworkCore S)) (core : ℕ) (s : S) (made : ℕ) (has : HasMade net cores core s made)
       → net.waits (after_step net core (drop has.now.taken (fed_to net cores core)) has.now) ≡ false → HasMade net (turn net cores core) core s (suc made)
   made_one cores core s made has goes = record {
     now = next_core net cores core has.now;
@@ -117,7 +117,7 @@ module _ {S : Type 0} (net : Network S) (uses : UsesQueues net) where
   }
 
   -- a step that waits is none
-  made_none : (cores : List (Joined S)) (core : ℕ) (s : S) (made : ℕ) (has : HasMade net cores core s made)
+  made_none : (cores : List (NetworkCore S)) (core : ℕ) (s : S) (made : ℕ) (has : HasMade net cores core s made)
       → net.waits (after_step net core (drop has.now.taken (fed_to net cores core)) has.now) ≡ true → HasMade net (turn net cores core) core s made
   made_none cores core s made has waits =
       let same : next_core net cores core has.now ≡ has.now =
@@ -129,7 +129,7 @@ module _ {S : Type 0} (net : Network S) (uses : UsesQueues net) where
       (turn_here net cores core has.now has.there ∙ ap (λ c. Some c) same ∙ sym has.there) has
 
   -- each core has a past after a step
-  pub past_turn : (starts : List S) (cores : List (Joined S)) (core : ℕ) → HavePast net starts cores → HavePast net starts (turn net cores core)
+  pub past_turn : (starts : List S) (cores : List (NetworkCore S)) (core : ℕ) → HavePast net starts cores → HavePast net starts (turn net cores core)
   past_turn starts cores core have = record {
     each = λ k s at. elim (cases_eq core k) as (λ e. (made : ℕ) × HasMade net (turn net cores core) k s made) [
       | inl same ↦ subst (λ (j : ℕ). (made : ℕ) × HasMade net (turn net cores core) j s made) same
@@ -152,6 +152,6 @@ module _ {S : Type 0} (net : Network S) (uses : UsesQueues net) where
       by false goes = (suc was.0, made_one cores core s was.0 was.1 goes)
 
   -- and after any steps
-  pub past_interleaved : (starts : List S) (cores : List (Joined S)) (steps : List ℕ) → HavePast net starts cores → HavePast net starts (interleaved net cores steps)
+  pub past_interleaved : (starts : List S) (cores : List (NetworkCore S)) (steps : List ℕ) → HavePast net starts cores → HavePast net starts (interleaved net cores steps)
   past_interleaved starts cores [] have = have
   past_interleaved starts cores (core ∷ steps) have = past_interleaved starts (turn net cores core) steps (past_turn starts cores core have)

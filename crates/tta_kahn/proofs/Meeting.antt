@@ -6,7 +6,7 @@ use Rattle.std.proofs.lemmas.Bool.{cases_eq}
 use Rattle.std.proofs.lemmas.List.Sums.{fold-append}
 use Rattle.tta_list.proofs.Prefixes.{prefix_same, prefix_chain}
 use Rattle.tta_kahn.specs.Cited.{IsPrefixOf}
-use Rattle.tta_kahn.specs.Network.{Network, Joined, output_of, feeder_of, fed_to, after_step, turn, interleaved, joined, AreAtRest, AreComparable}
+use Rattle.tta_kahn.specs.Network.{Network, NetworkCore, output_of, feeder_of, fed_to, after_step, turn, interleaved, joined, AreAtRest, AreComparable}
 use Rattle.tta_kahn.specs.Queues.{UsesQueues}
 use Rattle.tta_kahn.proofs.Prefixes.{prefixes_meet}
 use Rattle.tta_kahn.proofs.OneCore.{put_by, put_longer}
@@ -26,7 +26,7 @@ pub record Does {S T : Type 0} (net : Network S) (starts : List S) (other : Netw
   pub inputs : (steps : List ℕ) (core : ℕ) → IsInput (fed_to other (interleaved other (joined others) steps) core)
 
 -- what a core has output after its step is what its run outputs on what it was fed before
-put_on : {S : Type 0} (net : Network S) → UsesQueues net → (cores : List (Joined S)) (core : ℕ) (s : S) (made : ℕ) → HasMade net cores core s made
+put_on : {S : Type 0} (net : Network S) → UsesQueues net → (cores : List (NetworkCore S)) (core : ℕ) (s : S) (made : ℕ) → HasMade net cores core s made
     → (n : ℕ) × (output_of net (turn net cores core) core ≡ put_by net core s (fed_to net cores core) n)
 put_on {S} net uses cores core s made has = by (net.waits next) refl where
   fed : List ℕ
@@ -35,7 +35,7 @@ put_on {S} net uses cores core s made has = by (net.waits next) refl where
   next : S
   next = after_step net core (drop has.now.taken fed) has.now
 
-  new : Joined S
+  new : NetworkCore S
   new = record { state = net.with_rest next []; taken = has.now.taken + (length (drop has.now.taken fed) - length (net.rest next)) }
 
   at : output_of net (turn net cores core) core ≡ net.output (next_core net cores core has.now).state
@@ -51,22 +51,22 @@ module _ {S T : Type 0} (net : Network S) (uses : UsesQueues net) (starts : List
     (other : Network T) (uses' : UsesQueues other) (others : List T) (fresh' : AreFresh other others)
     (IsInput : List ℕ → Type 0) (does : Does net starts other others IsInput) where
   -- the other network after these steps
-  abbrev after : List ℕ → List (Joined T)
+  abbrev after : List ℕ → List (NetworkCore T)
   after steps = interleaved other (joined others) steps
 
   -- it has output at least what the one has
-  abbrev IsAhead : List (Joined S) → List ℕ → Type 0
+  abbrev IsAhead : List (NetworkCore S) → List ℕ → Type 0
   IsAhead cores steps = (core : ℕ) → IsPrefixOf (output_of net cores core) (output_of other (after steps) core)
 
   after_more : (steps more : List ℕ) → after (steps ++ more) ≡ interleaved other (after steps) more
   after_more steps more = fold-append (turn other) (joined others) steps more
 
-  still_ahead : (cores : List (Joined S)) (steps more : List ℕ) → IsAhead cores steps → IsAhead cores (steps ++ more)
+  still_ahead : (cores : List (NetworkCore S)) (steps more : List ℕ) → IsAhead cores steps → IsAhead cores (steps ++ more)
   still_ahead cores steps more ahead core =
       prefix_chain _ _ _ (ahead core)
       (prefix_chain _ _ _ (interleaved_grows other uses' (after steps) more core) (prefix_same _ _ (ap (λ cs. output_of other cs core) (sym (after_more steps more)))))
 
-  fed_ahead : (cores : List (Joined S)) (steps : List ℕ) (core : ℕ) → IsAhead cores steps → IsPrefixOf (fed_to net cores core) (fed_to other (after steps) core)
+  fed_ahead : (cores : List (NetworkCore S)) (steps : List ℕ) (core : ℕ) → IsAhead cores steps → IsPrefixOf (fed_to net cores core) (fed_to other (after steps) core)
   fed_ahead cores steps core ahead =
       prefix_chain _ _ _ (by (feeder_of net core))
       (prefix_same _ _ (ap (λ fs. option_map_or (output_of other (after steps)) (option_map_or (λ o. o) (slice_get fs core) None)
@@ -78,7 +78,7 @@ module _ {S T : Type 0} (net : Network S) (uses : UsesQueues net) (starts : List
       by (Some feeder) = ahead feeder
 
   -- where a core of the one steps, that of the other catches up
-  one_ahead : (cores : List (Joined S)) (steps : List ℕ) (core : ℕ) → HavePast net starts cores → IsAhead cores steps → (more : List ℕ) × IsAhead (turn net cores core) (steps ++ more)
+  one_ahead : (cores : List (NetworkCore S)) (steps : List ℕ) (core : ℕ) → HavePast net starts cores → IsAhead cores steps → (more : List ℕ) × IsAhead (turn net cores core) (steps ++ more)
   one_ahead cores steps core have ahead = by (slice_get starts core) refl where
     by : (o : Option S) → slice_get starts core ≡ o → (more : List ℕ) × IsAhead (turn net cores core) (steps ++ more)
     by None none = (
@@ -109,7 +109,7 @@ module _ {S T : Type 0} (net : Network S) (uses : UsesQueues net) (starts : List
           ],
         )
 
-  all_ahead : (cores : List (Joined S)) (steps todo : List ℕ) → HavePast net starts cores → IsAhead cores steps → (more : List ℕ) × IsAhead (interleaved net cores todo) (steps ++ more)
+  all_ahead : (cores : List (NetworkCore S)) (steps todo : List ℕ) → HavePast net starts cores → IsAhead cores steps → (more : List ℕ) × IsAhead (interleaved net cores todo) (steps ++ more)
   all_ahead cores steps [] have ahead = ([], still_ahead cores steps [] ahead)
   all_ahead cores steps (core ∷ todo) have ahead =
       let one = one_ahead cores steps core have ahead in
@@ -140,7 +140,7 @@ module _ {S T : Type 0} (net : Network S) (uses : UsesQueues net) (starts : List
       prefixes_meet _ _ _ (reach.1 core)
       (prefix_chain _ _ _ (interleaved_grows other uses' (after steps) reach.0 core) (prefix_same _ _ (ap (λ cs. output_of other cs core) (sym (after_more steps reach.0)))))
 
-  rests : (cores : List (Joined T)) (more : List ℕ) → AreAtRest other cores → interleaved other cores more ≡ cores
+  rests : (cores : List (NetworkCore T)) (more : List ℕ) → AreAtRest other cores → interleaved other cores more ≡ cores
   rests cores [] rest = refl
   rests cores (core ∷ more) rest = ap (λ cs. interleaved other cs more) (rest core) ∙ rests cores more rest
 

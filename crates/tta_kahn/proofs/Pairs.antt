@@ -9,7 +9,7 @@ use Rattle.tta_list.proofs.Lists.{all_one}
 use Rattle.tta_program.specs.Sequential as program
 use Rattle.tta_code.specs.Cycle.{State, next, start}
 use Rattle.tta_kahn.specs.declared.cores.Core.{Core}
-use Rattle.tta_kahn.specs.Network.{Network, Joined, output_of, feeder_of, fed_to, interleaved, joined}
+use Rattle.tta_kahn.specs.Network.{Network, NetworkCore, output_of, feeder_of, fed_to, interleaved, joined}
 use Rattle.tta_kahn.specs.Cluster.{cycles_given, cycle_of, first_states}
 use Rattle.tta_kahn.specs.Programs as programs
 use Rattle.tta_kahn.specs.Laws.{IsCore, Pair, IsPair, core_in, core_memory, program_memory, CoresAgree}
@@ -110,7 +110,7 @@ module _ (u : Units) (pairs : List Pair) (feeds : List (Option ℕ)) (given : �
       let pair = of_program core of.0 of.1 in
       let is = all_one (IsPair u) pairs core pair.0 all pair.1 in
       let words = start_words u pair.0.program is.program (program_memory pair.0) (over_words pair.0.program pair.0.memory is.program is.words) in
-      subst (λ (x : Joined program.State). KeepsWords x.state) of.2 (subst KeepsWords pair.2 words)
+      subst (λ (x : NetworkCore program.State). KeepsWords x.state) of.2 (subst KeepsWords pair.2 words)
 
   output_words : (steps : List ℕ) (core : ℕ) → AreWords (output_of other (interleaved other (joined others) steps) core)
   output_words steps core = all_words u ps programs_rules feeds given given_words (joined others) steps keep_first core

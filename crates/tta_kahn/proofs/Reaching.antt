@@ -4,7 +4,7 @@ use Rattle.std.specs.Prelude.{slice_get}
 use Rattle.std.specs.Option.{option_map_or}
 use Rattle.tta_list.proofs.Prefixes.{prefix_same, prefix_chain}
 use Rattle.tta_kahn.specs.Cited.{IsPrefixOf}
-use Rattle.tta_kahn.specs.Network.{Network, Joined, output_of, fed_to, after_step, turn, interleaved, joined}
+use Rattle.tta_kahn.specs.Network.{Network, NetworkCore, output_of, fed_to, after_step, turn, interleaved, joined}
 use Rattle.tta_kahn.specs.Queues.{UsesQueues}
 use Rattle.tta_kahn.proofs.OneCore.{run, put_by, put_longer, put_later, put_all}
 use Rattle.tta_kahn.proofs.Turns.{past_output, past_step}
@@ -52,7 +52,7 @@ module _ {S : Type 0} (net : Network S) (uses : UsesQueues net) (starts : List S
   -- ---- catching up
 
   -- a core that steps often enough outputs what its run outputs on what it was fed before
-  pub catches_up : (more : ℕ) (cores : List (Joined S)) (core : ℕ) (s : S) (made : ℕ) (input : List ℕ) (n : ℕ) → HasMade net cores core s made
+  pub catches_up : (more : ℕ) (cores : List (NetworkCore S)) (core : ℕ) (s : S) (made : ℕ) (input : List ℕ) (n : ℕ) → HasMade net cores core s made
       → IsPrefixOf input (fed_to net cores core) → n ≤ made + more → IsPrefixOf (put_by net core s input n) (output_of net (interleaved net cores (replicate more core)) core)
   catches_up zero cores core s made input n has begins le =
       prefix_chain _ _ _ (put_longer net uses core s input (fed_to net cores core) n begins)

@@ -3,21 +3,21 @@ use Rattle.std.proofs.Common.{◌≡◌, ℕ, suc, ◌+◌, ◌-◌, ◌≤◌, 
 use Rattle.std.specs.Prelude.{if◌then◌else◌}
 use Rattle.std.proofs.lemmas.List.{drop-append-le, drop-drop, drop_at, length-drop, length-append}
 use Rattle.tta_kahn.specs.Cited.{IsPrefixOf}
-use Rattle.tta_kahn.specs.Network.{Network, Joined, after_step, stepped}
+use Rattle.tta_kahn.specs.Network.{Network, NetworkCore, after_step, stepped}
 use Rattle.tta_kahn.specs.Queues.{UsesQueues}
 use Rattle.tta_kahn.proofs.OneCore.{run, put_by, run_more}
 
 -- ---- one core
 
 -- A core has made so many steps of its run on this input, and does not wait.
-pub record IsPast {S : Type 0} (net : Network S) (core : ℕ) (s : S) (input : List ℕ) (c : Joined S) (made : ℕ) : Type 0 where
+pub record IsPast {S : Type 0} (net : Network S) (core : ℕ) (s : S) (input : List ℕ) (c : NetworkCore S) (made : ℕ) : Type 0 where
   pub within : c.taken ≤ length input
   pub goes : net.waits c.state ≡ false
   pub is : run net core s input made ≡ net.with_rest c.state (drop c.taken input)
 
 module _ {S : Type 0} (net : Network S) (uses : UsesQueues net) (core : ℕ) (s : S) where
   -- it has also made them on a longer input
-  pub past_more : (input words : List ℕ) (c : Joined S) (made : ℕ) → IsPast net core s input c made → IsPast net core s (input ++ words) c made
+  pub past_more : (input words : List ℕ) (c : NetworkCore S) (made : ℕ) → IsPast net core s input c made → IsPast net core s (input ++ words) c made
   past_more input words c made past =
       let at = run net core s input made in
       let goes : net.waits at ≡ false = ap net.waits past.is ∙ uses.waits_is c.state (drop c.taken input) ∙ past.goes in
@@ -32,19 +32,19 @@ module _ {S : Type 0} (net : Network S) (uses : UsesQueues net) (core : ℕ) (s 
             ∙ ap (net.with_rest c.state) (sym (drop-append-le c.taken input words past.within));
       }
 
-  pub past_longer : (input longer : List ℕ) (c : Joined S) (made : ℕ) → IsPrefixOf input longer → IsPast net core s input c made → IsPast net core s longer c made
+  pub past_longer : (input longer : List ℕ) (c : NetworkCore S) (made : ℕ) → IsPrefixOf input longer → IsPast net core s input c made → IsPast net core s longer c made
   past_longer input longer c made begins past = subst (λ (l : List ℕ). IsPast net core s l c made) (sym begins.1) (past_more input begins.0 c made past)
 
   -- its output is that of the run
-  pub past_output : (input : List ℕ) (c : Joined S) (made : ℕ) → IsPast net core s input c made → net.output c.state ≡ put_by net core s input made
+  pub past_output : (input : List ℕ) (c : NetworkCore S) (made : ℕ) → IsPast net core s input c made → net.output c.state ≡ put_by net core s input made
   past_output input c made past = sym (uses.output_is c.state (drop c.taken input)) ∙ ap net.output (sym past.is)
 
   -- a step on the rest of the input is the next step of the run
-  pub past_step : (input : List ℕ) (c : Joined S) (made : ℕ) → IsPast net core s input c made → run net core s input (suc made) ≡ after_step net core (drop c.taken input) c
+  pub past_step : (input : List ℕ) (c : NetworkCore S) (made : ℕ) → IsPast net core s input c made → run net core s input (suc made) ≡ after_step net core (drop c.taken input) c
   past_step input c made past = ap (net.step core) past.is
 
   -- and where it does not wait, the core has made it
-  pub past_next : (input : List ℕ) (c : Joined S) (made : ℕ) → IsPast net core s input c made → net.waits (after_step net core (drop c.taken input) c) ≡ false
+  pub past_next : (input : List ℕ) (c : NetworkCore S) (made : ℕ) → IsPast net core s input c made → net.waits (after_step net core (drop c.taken input) c) ≡ false
       → IsPast net core s input (stepped net core (drop c.taken input) c) (suc made)
   past_next input c made past goes =
       let rest = drop c.taken input in
@@ -58,7 +58,7 @@ module _ {S : Type 0} (net : Network S) (uses : UsesQueues net) (core : ℕ) (s 
       let left : drop (c.taken + (length rest - length (net.rest next))) input ≡ net.rest next =
       ap (λ (n : ℕ). drop (c.taken + n) input) count ∙ sym (drop-drop (length took.0) c.taken input) ∙ ap (drop (length took.0)) split
       ∙ drop_at took.0 (net.rest next) (length took.0) refl in
-      let new : Joined S = record { state = net.with_rest next []; taken = c.taken + (length rest - length (net.rest next)) } in
+      let new : NetworkCore S = record { state = net.with_rest next []; taken = c.taken + (length rest - length (net.rest next)) } in
       let done : IsPast net core s input new (suc made) = record {
         within = omega (arith, past.within);
         goes = uses.waits_is next [] ∙ goes;

@@ -4,7 +4,7 @@ use Rattle.std.specs.Option.{option_map_or}
 use Rattle.tta_kahn.specs.Cited.{Units, Fault}
 use Rattle.tta_code.specs.Cycle.{State, Outcome, Running, Halted, Waiting, next, start}
 use Rattle.tta_kahn.specs.declared.cores.Core.{Core}
-use Rattle.tta_kahn.specs.Network.{Network, Joined, no_input, joined, interleaved, output_of, AreAtRest}
+use Rattle.tta_kahn.specs.Network.{Network, NetworkCore, no_input, joined, interleaved, output_of, AreAtRest}
 
 -- the state of a core after one more cycle
 abbrev pub cycle_of : Units → List Core → (core : ℕ) → State → State
@@ -41,7 +41,7 @@ first_states cores memories = map (λ c. start c.0.machine c.1 []) (zip cores me
 
 -- the cores after these cycles, where each number is that of the core that makes one
 abbrev pub cluster_given : Units → List Core → (feeds : List (Option ℕ)) → (given : ℕ → List ℕ) → (memories : List (List ℕ)) → (steps : List ℕ)
-    → List (Joined State)
+    → List (NetworkCore State)
 cluster_given u cores feeds given memories steps =
     interleaved (cycles_given u cores feeds given) (joined (first_states cores memories)) steps
 
@@ -60,7 +60,7 @@ IsRestGiven u cores feeds given memories steps =
 -- ---- without
 
 -- A cluster: the cores after these cycles, with no words from outside.
-abbrev pub cluster : Units → List Core → (feeds : List (Option ℕ)) → (memories : List (List ℕ)) → (steps : List ℕ) → List (Joined State)
+abbrev pub cluster : Units → List Core → (feeds : List (Option ℕ)) → (memories : List (List ℕ)) → (steps : List ℕ) → List (NetworkCore State)
 cluster u cores feeds memories steps = cluster_given u cores feeds no_input memories steps
 
 -- what a core has output then

@@ -3,7 +3,7 @@ use Rattle.std.specs.Prelude.{ℕ, Bool, true, false, List, [], Option, slice_ge
 use Rattle.std.specs.Option.{option_map_or}
 use Rattle.tta_kahn.specs.Cited.{Units, Program}
 use Rattle.tta_program.specs.Sequential.{State, Outcome, Running, Halted, Waiting, next, start}
-use Rattle.tta_kahn.specs.Network.{Network, Joined, joined, interleaved, output_of, AreAtRest}
+use Rattle.tta_kahn.specs.Network.{Network, NetworkCore, joined, interleaved, output_of, AreAtRest}
 
 -- the state of a program after one more step
 abbrev pub step_of : Units → List Program → (core : ℕ) → State → State
@@ -33,7 +33,7 @@ first_states programs memories = map (λ p. start p.0 p.1 []) (zip programs memo
 
 -- the programs after these steps, where each number is that of the program that makes one
 abbrev pub group : Units → List Program → (feeds : List (Option ℕ)) → (given : ℕ → List ℕ) → (memories : List (List ℕ)) → (steps : List ℕ)
-    → List (Joined State)
+    → List (NetworkCore State)
 group u programs feeds given memories steps =
     interleaved (steps_of u programs feeds given) (joined (first_states programs memories)) steps
 

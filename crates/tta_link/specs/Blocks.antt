@@ -30,9 +30,13 @@ pub record IsBlock (m : Machine) (blocks : ℕ) (p : Placed) : Type 0 where
   pub fits : (cycle : ℕ) → fits_cycle m (in_cycle cycle p.items) ≡ true
   pub addresses : list_all (λ x. is_within blocks x.item) p.items ≡ true
 
+-- how many blocks can be linked, 2 ^ 24
+abbrev pub most_blocks : ℕ
+most_blocks = 16777216
+
 -- blocks that can be linked
 pub record AreBlocks (m : Machine) (ps : List Placed) : Type 0 where
-  pub few : length ps ≤ 16777216
+  pub few : length ps ≤ most_blocks
   pub each : (k : ℕ) (p : Placed) → slice_get ps k ≡ Some p → IsBlock m (length ps) p
 
 -- how many cycles blocks take, one after another

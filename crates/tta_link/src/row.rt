@@ -7,7 +7,7 @@ ghost use Rattle.tta_arch.specs.Rules.{IsMachine};
 ghost use Rattle.tta_code.specs.Legal.{IsLegalCode};
 ghost use Rattle.tta_link.specs.Linked.{starts_from, block_words, IsLinked};
 ghost use Rattle.tta_link.specs.declared.row.LinkError.TheVariants.{NoMemory};
-ghost use Rattle.tta_link.specs.Blocks.{has_place, total_length, AreBlocks, HasCause};
+ghost use Rattle.tta_link.specs.Blocks.{has_place, most_blocks, total_length, AreBlocks, HasCause};
 ghost use Rattle.tta_link.specs.Put.{is_word_in};
 
 use crate::items::put;
@@ -47,7 +47,7 @@ impl<T: Drop> From<AllocFailed<T>> for LinkError {
 
 /// How many cycles blocks take, one after another.
 fn total_length(blocks: &[Placed]) -> u64
-    requires { length blocks.now ≤ 16777216 }
+    requires { length blocks.now ≤ most_blocks }
     ensures { result ≡ total_length blocks.now }
 {
     let mut total = 0;

@@ -1,6 +1,6 @@
 -- What a clause of stages says at a status is what the one stage says that can end so, of a command that runs something.
 use Rattle.std.proofs.Common.{◌≡◌, ℕ, List, Option, Some, None, inl, inr}
-use Rattle.tta_load.specs.Cited.{Store, World, IsUntouched, Output, IsQuiet, Units}
+use Rattle.tta_load.specs.Cited.{Store, World, IsUntouched, Output, NothingOutput, Units}
 use Rattle.tta_load.specs.declared.machine.MachineFile.{MachineFile}
 use Rattle.tta_load.specs.declared.status.Status.{Status}
 use Rattle.tta_load.specs.Held.{HasText, ReadFails}
@@ -50,16 +50,16 @@ abbrev pub RunStages : {V : Type 0} → Units → (Says : MachineFile → List �
     → (Reports : MachineFile → V → (memory words : List ℕ) → (old new : Output) → Status → Type 0) → (M name IN : List ℕ)
     → (STREAM : Option (List ℕ)) → (before after : World) → (old new : Output) → Status → (G : Type 0) → Type 0
 RunStages u Says Refuses Reports M name IN STREAM before after old new s G =
-    (ReadFails M 1 before after s → IsQuiet old new → G)
-    → (IsUntouched before after × HasText before.contents M (λ text. RefusesMachine u text s) → IsQuiet old new → G)
-    → (HasMachine u before.contents M → ReadFails name 2 before after s → IsQuiet old new → G)
-    → ((m : HasMachine u before.contents M) → IsUntouched before after × HasText before.contents name (λ bytes. Refuses m.value bytes s) → IsQuiet old new → G)
-    → (HasPair u Says before.contents M name → ReadFails IN 3 before after s → IsQuiet old new → G)
+    (ReadFails M 1 before after s → NothingOutput old new → G)
+    → (IsUntouched before after × HasText before.contents M (λ text. RefusesMachine u text s) → NothingOutput old new → G)
+    → (HasMachine u before.contents M → ReadFails name 2 before after s → NothingOutput old new → G)
+    → ((m : HasMachine u before.contents M) → IsUntouched before after × HasText before.contents name (λ bytes. Refuses m.value bytes s) → NothingOutput old new → G)
+    → (HasPair u Says before.contents M name → ReadFails IN 3 before after s → NothingOutput old new → G)
     → ((pair : HasPair u Says before.contents M name)
-    → IsUntouched before after × HasText before.contents IN (λ bytes. RefusesInput pair.machine.value.machine.data_words bytes s) → IsQuiet old new → G)
-    → (HasThree u Says before.contents M name IN → OfNamed STREAM (λ name. ReadFails name 5 before after s) → IsQuiet old new → G)
+    → IsUntouched before after × HasText before.contents IN (λ bytes. RefusesInput pair.machine.value.machine.data_words bytes s) → NothingOutput old new → G)
+    → (HasThree u Says before.contents M name IN → OfNamed STREAM (λ name. ReadFails name 5 before after s) → NothingOutput old new → G)
     → (HasThree u Says before.contents M name IN → IsUntouched before after
-    → OfNamed STREAM (λ name. HasText before.contents name (λ bytes. RefusesStream bytes s)) → IsQuiet old new → G)
+    → OfNamed STREAM (λ name. HasText before.contents name (λ bytes. RefusesStream bytes s)) → NothingOutput old new → G)
     → ((pair : HasPair u Says before.contents M name) (given : HasGiven pair.machine.value.machine.data_words before.contents IN STREAM)
     → IsUntouched before after → Reports pair.machine.value pair.second.value given.input.value given.stream.words old new s → G)
     → PairRuns u Says Refuses Reports M name IN STREAM before after old new s → G
@@ -86,7 +86,7 @@ stream_at number (Some name) before after s Fault word at is e = inl (at number 
 pub run_at : {V : Type 0} (u : Units) (Says : MachineFile → List ℕ → V → Type 0) (Refuses : MachineFile → List ℕ → Status → Type 0)
     (Reports : MachineFile → V → (memory words : List ℕ) → (old new : Output) → Status → Type 0) (M name IN : List ℕ)
     (STREAM : Option (List ℕ)) (before after : World) (old new : Output) (s : Status) (Fault : List ℕ → Type 0) (word : ℕ)
-    → ((k : ℕ) (n : List ℕ) → (word ≡ k) × Fault n → ReadFails n k before after s) → IsQuiet old new
+    → ((k : ℕ) (n : List ℕ) → (word ≡ k) × Fault n → ReadFails n k before after s) → NothingOutput old new
     → RunFault u Says before.contents M name IN STREAM Fault word → PairRuns u Says Refuses Reports M name IN STREAM before after old new s
 run_at u Says Refuses Reports M name IN STREAM before after old new s Fault word at quiet (inl a) =
     inl (pair_at u Refuses M name before after s Fault word at a, quiet)

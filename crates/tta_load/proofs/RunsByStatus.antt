@@ -1,6 +1,6 @@
 -- The same of the commands that run what is for the machine.
 use Rattle.std.proofs.Common.{◌↔◌, ℕ, List, Option, inl, inr}
-use Rattle.tta_load.specs.Cited.{World, Output, IsQuiet, Units}
+use Rattle.tta_load.specs.Cited.{World, Output, NothingOutput, Units}
 use Rattle.tta_load.specs.declared.machine.MachineFile.{MachineFile}
 use Rattle.tta_load.specs.declared.status.Status.{Status}
 use Rattle.tta_load.specs.declared.status.Status.TheVariants as status
@@ -24,7 +24,7 @@ Reported Rows old new (status.BadInput line) = ⊥
 Reported Rows old new (status.BadStream line) = ⊥
 Reported Rows old new (status.ReadFault word) = ⊥
 Reported Rows old new (status.TooLong word) = ⊥
-Reported Rows old new status.NoMemory = IsQuiet old new
+Reported Rows old new status.NoMemory = NothingOutput old new
 Reported Rows old new s = Rows s
 
 module _ (Makes : List ℕ → Type 0) (Lacks : Status → Type 0) (old new : Output) (lacks : (s : Status) → Lacks s → IsLack s) where

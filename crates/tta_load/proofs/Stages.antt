@@ -1,6 +1,6 @@
 -- What a clause of stages says at a status is what the one stage says that can end so.
 use Rattle.std.proofs.Common.{◌≡◌, ℕ, List, Option, inl, inr}
-use Rattle.tta_load.specs.Cited.{Store, World, IsUntouched, Output, IsQuiet, Units}
+use Rattle.tta_load.specs.Cited.{Store, World, IsUntouched, Output, NothingOutput, Units}
 use Rattle.tta_load.specs.declared.machine.MachineFile.{MachineFile}
 use Rattle.tta_load.specs.declared.status.Status.{Status}
 use Rattle.tta_load.specs.Held.{HasText, ReadFails}
@@ -60,10 +60,10 @@ abbrev pub PutStages : {V : Type 0} → Units → (Says : MachineFile → List �
     → (Makes : MachineFile → V → List ℕ → Type 0) → (Lacks : MachineFile → V → Status → Type 0) → (M name : List ℕ) → (before after : World)
     → (old new : Output) → Status → (G : Type 0) → Type 0
 PutStages u Says Refuses Makes Lacks M name before after old new s G =
-    (ReadFails M 1 before after s → IsQuiet old new → G)
-    → (IsUntouched before after × HasText before.contents M (λ text. RefusesMachine u text s) → IsQuiet old new → G)
-    → (HasMachine u before.contents M → ReadFails name 2 before after s → IsQuiet old new → G)
-    → ((m : HasMachine u before.contents M) → IsUntouched before after × HasText before.contents name (λ bytes. Refuses m.value bytes s) → IsQuiet old new → G)
+    (ReadFails M 1 before after s → NothingOutput old new → G)
+    → (IsUntouched before after × HasText before.contents M (λ text. RefusesMachine u text s) → NothingOutput old new → G)
+    → (HasMachine u before.contents M → ReadFails name 2 before after s → NothingOutput old new → G)
+    → ((m : HasMachine u before.contents M) → IsUntouched before after × HasText before.contents name (λ bytes. Refuses m.value bytes s) → NothingOutput old new → G)
     → ((pair : HasPair u Says before.contents M name) → IsUntouched before after
     → TextEnds (Makes pair.machine.value pair.second.value) (Lacks pair.machine.value pair.second.value) old new s → G)
     → Puts u Says Refuses Makes Lacks M name before after old new s → G

@@ -13,7 +13,7 @@ pub use Rattle.tta_ops.specs.Set.{stated}
 pub use Rattle.tta_ops.specs.Units.{Units}
 pub use Rattle.tta_ports.specs.Faults.{Rose}
 pub use Rattle.tta_ports.specs.Files.{Holds, HoldsMore, IsPartlyWritten, written}
-pub use Rattle.tta_ports.specs.Output.{IsCut, IsPut, IsQuiet, Output}
+pub use Rattle.tta_ports.specs.Output.{IsCut, IsPut, NothingOutput, Output}
 pub use Rattle.tta_ports.specs.Store.{Store}
 pub use Rattle.tta_ports.specs.World.{IsUntouched, World}
 pub use Rattle.tta_ports.specs.declared.fault.Fault.TheVariants.{Read, Write}

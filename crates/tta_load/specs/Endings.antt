@@ -1,7 +1,7 @@
 -- Words of the endings by status: a command has a relation `..Endings` beside its clause, which says of each status alone what holds where
 -- the command ends so, and a law by which it says what the clause does.
 use Rattle.std.specs.Prelude.{◌≡◌, ◌⊎◌, ℕ, List, Option, Some, None, Err}
-use Rattle.tta_load.specs.Cited.{input_of, stream_of, Store, World, IsUntouched, Output, IsQuiet, IsPut, IsCut, Units}
+use Rattle.tta_load.specs.Cited.{input_of, stream_of, Store, World, IsUntouched, Output, NothingOutput, IsPut, IsCut, Units}
 use Rattle.tta_load.specs.declared.machine.MachineFile.{MachineFile}
 use Rattle.tta_load.specs.declared.status.Status.{Status}
 use Rattle.tta_load.specs.declared.status.Status.TheVariants as status
@@ -91,16 +91,16 @@ WriteEndings u Says Refuses Makes Lacks M name OUT before after s =
 abbrev pub TextRows : (Makes : List ℕ → Type 0) → (Lacks : Status → Type 0) → (old new : Output) → Status → Type 0
 TextRows Makes Lacks old new status.Ok = (text : List ℕ) × Makes text × IsPut text old new
 TextRows Makes Lacks old new status.WriteFault = (text : List ℕ) × Makes text × IsCut text old new
-TextRows Makes Lacks old new s = IsQuiet old new × Lacks s
+TextRows Makes Lacks old new s = NothingOutput old new × Lacks s
 
 -- the rows of a command that puts a text of the two
 abbrev pub PutRows : {V : Type 0} → Units → (Says : MachineFile → List ℕ → V → Type 0) → (Makes : MachineFile → V → List ℕ → Type 0)
     → (Lacks : MachineFile → V → Status → Type 0) → (M name : List ℕ) → (before after : World) → (old new : Output) → Status → Type 0
 PutRows u Says Makes Lacks M name before after old new (status.ReadFault word) =
-    IsQuiet old new × PairFault u before.contents M name (λ n. ReadFailed n before after) word
+    NothingOutput old new × PairFault u before.contents M name (λ n. ReadFailed n before after) word
 PutRows u Says Makes Lacks M name before after old new (status.TooLong word) =
-    IsQuiet old new × PairFault u before.contents M name (λ n. IsTooLong n before after) word
-PutRows u Says Makes Lacks M name before after old new status.NoMemory = IsUntouched before after × IsQuiet old new
+    NothingOutput old new × PairFault u before.contents M name (λ n. IsTooLong n before after) word
+PutRows u Says Makes Lacks M name before after old new status.NoMemory = IsUntouched before after × NothingOutput old new
 PutRows u Says Makes Lacks M name before after old new s =
     IsUntouched before after × OfPair u Says before.contents M name (λ file value. TextRows (Makes file value) (Lacks file value) old new s)
 
@@ -109,23 +109,23 @@ abbrev pub PutEndings : {V : Type 0} → Units → (Says : MachineFile → List 
     → (Makes : MachineFile → V → List ℕ → Type 0) → (Lacks : MachineFile → V → Status → Type 0)
     → (M name : List ℕ) → (before after : World) → (old new : Output) → Status → Type 0
 PutEndings u Says Refuses Makes Lacks M name before after old new s =
-    PairEndings u Refuses before.contents M name (IsUntouched before after × IsQuiet old new) (PutRows u Says Makes Lacks M name before after old new) s
+    PairEndings u Refuses before.contents M name (IsUntouched before after × NothingOutput old new) (PutRows u Says Makes Lacks M name before after old new) s
 
 -- the rows of a command that runs what was read for the machine, by those of how it reports
 abbrev pub RunRows : {V : Type 0} → Units → (Says : MachineFile → List ℕ → V → Type 0)
     → (Rows : MachineFile → V → (memory words : List ℕ) → (old new : Output) → Status → Type 0)
     → (M name IN : List ℕ) → (STREAM : Option (List ℕ)) → (before after : World) → (old new : Output) → Status → Type 0
 RunRows u Says Rows M name IN STREAM before after old new (status.BadInput line) =
-    IsUntouched before after × IsQuiet old new
+    IsUntouched before after × NothingOutput old new
     × OfPair u Says before.contents M name (λ file value. HasText before.contents IN (λ bytes. input_of file.machine.data_words bytes ≡ Err line))
 RunRows u Says Rows M name IN STREAM before after old new (status.BadStream line) =
-    IsUntouched before after × IsQuiet old new × HasThree u Says before.contents M name IN
+    IsUntouched before after × NothingOutput old new × HasThree u Says before.contents M name IN
     × OfNamed STREAM (λ n. HasText before.contents n (λ bytes. stream_of bytes ≡ Err line))
 RunRows u Says Rows M name IN STREAM before after old new (status.ReadFault word) =
-    IsQuiet old new × RunFault u Says before.contents M name IN STREAM (λ n. ReadFailed n before after) word
+    NothingOutput old new × RunFault u Says before.contents M name IN STREAM (λ n. ReadFailed n before after) word
 RunRows u Says Rows M name IN STREAM before after old new (status.TooLong word) =
-    IsQuiet old new × RunFault u Says before.contents M name IN STREAM (λ n. IsTooLong n before after) word
-RunRows u Says Rows M name IN STREAM before after old new status.NoMemory = IsUntouched before after × IsQuiet old new
+    NothingOutput old new × RunFault u Says before.contents M name IN STREAM (λ n. IsTooLong n before after) word
+RunRows u Says Rows M name IN STREAM before after old new status.NoMemory = IsUntouched before after × NothingOutput old new
 RunRows u Says Rows M name IN STREAM before after old new s =
     IsUntouched before after
     × OfRun u Says before.contents M name IN STREAM (λ file value memory words. Rows file value memory words old new s)
@@ -135,5 +135,5 @@ abbrev pub PairRunEndings : {V : Type 0} → Units → (Says : MachineFile → L
     → (Rows : MachineFile → V → (memory words : List ℕ) → (old new : Output) → Status → Type 0)
     → (M name IN : List ℕ) → (STREAM : Option (List ℕ)) → (before after : World) → (old new : Output) → Status → Type 0
 PairRunEndings u Says Refuses Rows M name IN STREAM before after old new s =
-    PairEndings u Refuses before.contents M name (IsUntouched before after × IsQuiet old new)
+    PairEndings u Refuses before.contents M name (IsUntouched before after × NothingOutput old new)
     (RunRows u Says Rows M name IN STREAM before after old new) s

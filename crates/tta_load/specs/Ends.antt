@@ -1,6 +1,6 @@
 -- How a command ends: its words are none, or what it has made of two files is written to a file, or put to the output.
 use Rattle.std.specs.Prelude.{◌≡◌, ◌⊎◌, ℕ, List, Some, Result, Ok, Err}
-use Rattle.tta_load.specs.Cited.{Units, Write, Rose, written, IsPartlyWritten, World, IsUntouched, Output, IsQuiet, IsPut, IsCut}
+use Rattle.tta_load.specs.Cited.{Units, Write, Rose, written, IsPartlyWritten, World, IsUntouched, Output, NothingOutput, IsPut, IsCut}
 use Rattle.tta_load.specs.declared.machine.MachineFile.{MachineFile}
 use Rattle.tta_load.specs.declared.status.Status.{Status}
 use Rattle.tta_load.specs.declared.status.Status.TheVariants as status
@@ -10,7 +10,7 @@ use Rattle.tta_load.specs.Pairs.{HasPair, PairFails}
 pub record IsUsage (before after : World) (old new : Output) (s : Status) : Type 0 where
   pub status : s ≡ status.Usage
   pub untouched : IsUntouched before after
-  pub quiet : IsQuiet old new
+  pub quiet : NothingOutput old new
 
 -- ---- writing
 
@@ -73,11 +73,11 @@ PutEnds text old new s = ⊥
 -- what was made was put; where nothing was made, nothing is put, and the command ends so
 abbrev pub PutsMade : {T : Type 0} → (T → List ℕ) → Result T Status → (old new : Output) → Status → Type 0
 PutsMade items (Ok v) old new s = PutEnds (items v) old new s
-PutsMade items (Err e) old new s = (s ≡ e) × IsQuiet old new
+PutsMade items (Err e) old new s = (s ≡ e) × NothingOutput old new
 
 -- a text was made and put, or none was made, for a cause, and nothing is put
 abbrev pub TextEnds : (Makes : List ℕ → Type 0) → (Lacks : Status → Type 0) → (old new : Output) → Status → Type 0
-TextEnds Makes Lacks old new s = ((text : List ℕ) × Makes text × PutEnds text old new s) ⊎ (Lacks s × IsQuiet old new)
+TextEnds Makes Lacks old new s = ((text : List ℕ) × Makes text × PutEnds text old new s) ⊎ (Lacks s × NothingOutput old new)
 
 -- How a command ends that puts a text of a machine and what is for it: one of these is refused, and nothing is put; or of both no
 -- text is made, for a cause; or the text is put. No file is touched but by a fault of a read.
@@ -85,6 +85,6 @@ abbrev pub Puts : {V : Type 0} → Units → (Says : MachineFile → List ℕ �
     → (Makes : MachineFile → V → List ℕ → Type 0) → (Lacks : MachineFile → V → Status → Type 0)
     → (M name : List ℕ) → (before after : World) → (old new : Output) → Status → Type 0
 Puts u Says Refuses Makes Lacks M name before after old new s =
-    (PairFails u Refuses M name before after s × IsQuiet old new)
+    (PairFails u Refuses M name before after s × NothingOutput old new)
     ⊎ ((pair : HasPair u Says before.contents M name) × IsUntouched before after
     × TextEnds (Makes pair.machine.value pair.second.value) (Lacks pair.machine.value pair.second.value) old new s)

@@ -9,7 +9,7 @@ use Rattle.tta_loadelim.specs.Cited.{Source, same_end}
 use Rattle.tta_arch.specs.declared.ends.Source.TheVariants as source
 use Rattle.tta_moves.proofs.Places.{either}
 use Rattle.tta_loadelim.specs.declared.facts.Fact.{Fact}
-use Rattle.tta_loadelim.specs.Known.{fact, have_one}
+use Rattle.tta_loadelim.specs.AvailableSlots.{fact, have_one}
 use Rattle.tta_loadelim.specs.Facts.{same_fact, is_among, are_among}
 use Rattle.tta_loadelim.proofs.Holding.{end_is}
 

@@ -8,7 +8,7 @@ use Rattle.tta_loadelim.specs.Cited.{Units, UnitOp, Op, Ldw, Stw, Ldf, Stf, Out,
 use Rattle.tta_arch.specs.Effects.{Operand}
 use Rattle.tta_moves.proofs.Places.{either}
 use Rattle.tta_reorder.proofs.Carried.{carried_on, does_open}
-use Rattle.tta_loadelim.specs.Known.{is_load}
+use Rattle.tta_loadelim.specs.AvailableSlots.{is_load}
 use Rattle.tta_list.proofs.Lists.{past_end}
 
 -- the frame that a word leaves where it is brought

@@ -7,7 +7,7 @@ use Rattle.std.proofs.lemmas.Bool.Decides.{nat_tests}
 use Rattle.tta_loadelim.specs.Cited.{Source, Held, read_held, same_end}
 use Rattle.tta_arch.specs.declared.ends.Source.TheVariants as source
 use Rattle.tta_moves.proofs.Places.{either}
-use Rattle.tta_loadelim.specs.Known.{fact, have_one}
+use Rattle.tta_loadelim.specs.AvailableSlots.{fact, have_one}
 use Rattle.tta_loadelim.specs.declared.facts.Fact.{Fact}
 
 pub end_is : (a b : Source) → same_end a b ≡ true → a ≡ b

@@ -11,7 +11,7 @@ use Rattle.tta_moves.proofs.Places.{either, same_self}
 use Rattle.tta_moves.proofs.Steps.{does_written}
 use Rattle.tta_optim.proofs.Copies.{is_whole, Copies, read_other, sure_word, sure_write}
 use Rattle.tta_loadelim.specs.declared.facts.Fact.{Fact}
-use Rattle.tta_loadelim.specs.Known.{fact, unit_of, port_of, loaded, stored, may_store, spoils, register_in, by_load, twin, by_twin, by_store, by_copy, stays, known}
+use Rattle.tta_loadelim.specs.AvailableSlots.{fact, unit_of, port_of, loaded, stored, may_store, spoils, register_in, by_load, twin, by_twin, by_store, by_copy, stays, known}
 use Rattle.tta_loadelim.proofs.Holding.{Holds, Hold, hold_both, hold_kept, hold_copied, end_is}
 use Rattle.tta_loadelim.proofs.Opened.{load_keeps, frame_away, load_shows, store_puts}
 use Rattle.tta_loadelim.proofs.Seen.{port_is, sure_seen, Loads, loads_is, Stores, stores_is, operand_whole, store_writes_none, then_false, none_at, twin_has}

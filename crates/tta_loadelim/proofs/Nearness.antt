@@ -8,7 +8,7 @@ use Rattle.tta_loadelim.specs.Cited.{Units, UnitOp, Op, Ldw, Stw, Ldf, Stf, Out,
 use Rattle.tta_arch.specs.Effects.{Operand}
 use Rattle.tta_moves.proofs.Places.{either}
 use Rattle.tta_reorder.proofs.Carried.{carried_on}
-use Rattle.tta_loadelim.specs.Known.{is_load, loaded, stored}
+use Rattle.tta_loadelim.specs.AvailableSlots.{is_load, loaded, stored}
 use Rattle.tta_loadelim.specs.Thinned.{is_in, is_over}
 use Rattle.tta_loadelim.proofs.Opened.{load_dry, store_dry}
 use Rattle.tta_loadelim.proofs.Seen.{stores_is}

@@ -7,7 +7,7 @@ use Rattle.tta_arch.specs.declared.ends.Source.TheVariants as source
 use Rattle.tta_arch.specs.Effects.{Operand}
 use Rattle.tta_moves.proofs.Places.{either}
 use Rattle.tta_loadelim.specs.declared.facts.Fact.{Fact}
-use Rattle.tta_loadelim.specs.Known.{fact, unit_of, port_of, register_in, stored, by_load, by_twin, by_store, by_copy, stays, known}
+use Rattle.tta_loadelim.specs.AvailableSlots.{fact, unit_of, port_of, register_in, stored, by_load, by_twin, by_store, by_copy, stays, known}
 use Rattle.tta_loadelim.specs.Facts.{is_among, are_among, StoresBy}
 use Rattle.tta_loadelim.proofs.Among.{among_copied, among_left, among_right, all_among, among_in, among_filter}
 

@@ -9,7 +9,7 @@ use Rattle.tta_arch.specs.Effects.{Operand}
 use Rattle.tta_moves.proofs.Places.{either, same_self}
 use Rattle.tta_reorder.proofs.Carried.{carried_on, does_open, fold_stays, frame_stays}
 use Rattle.tta_reorder.proofs.SameItem.{moves}
-use Rattle.tta_loadelim.specs.Known.{is_load, unit_of}
+use Rattle.tta_loadelim.specs.AvailableSlots.{is_load, unit_of}
 
 -- ---- operations of a kind are of no other kind
 

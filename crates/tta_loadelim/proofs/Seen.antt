@@ -8,7 +8,7 @@ use Rattle.tta_arch.specs.declared.ends.Source.TheVariants as source
 use Rattle.tta_arch.specs.Effects.{Operand}
 use Rattle.tta_moves.proofs.Places.{either}
 use Rattle.tta_optim.proofs.Copies.{is_whole, Copies, guard_none as sure_is}
-use Rattle.tta_loadelim.specs.Known.{is_load, word_of, port_of, loaded, stored, register_in, twin}
+use Rattle.tta_loadelim.specs.AvailableSlots.{is_load, word_of, port_of, loaded, stored, register_in, twin}
 use Rattle.tta_loadelim.proofs.Holding.{end_is}
 
 -- ---- what an item does, by what is said of it

@@ -8,7 +8,7 @@ use Rattle.tta_optim.specs.Kept.{Alike as AlikeAt}
 use Rattle.tta_optim.proofs.FrameKept.{frame_long}
 use Rattle.tta_optim.specs.Kept.{Alike as AlikeAt}
 use Rattle.tta_optim.proofs.Copies.{Copies, none_yet, one_more, stuck_means, first_means}
-use Rattle.tta_loadelim.specs.Known.{known, IsServed, AreServed}
+use Rattle.tta_loadelim.specs.AvailableSlots.{known, IsServed, AreServed}
 use Rattle.tta_loadelim.proofs.Holding.{Hold, have_one_word}
 use Rattle.tta_loadelim.proofs.Later.{known_later}
 use Rattle.tta_moves.proofs.Waiting.{stuck_all}

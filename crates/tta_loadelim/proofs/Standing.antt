@@ -9,7 +9,7 @@ use Rattle.tta_loadelim.specs.Cited.{Source, Machine, Target, Reg, KeptReg, same
 use Rattle.tta_moves.proofs.Places.{either}
 use Rattle.tta_optim.proofs.Meanings.{framed_of, framed_next}
 use Rattle.tta_loadelim.specs.Reworked.{IsReworked}
-use Rattle.tta_loadelim.specs.Known.{IsServed, AreServed}
+use Rattle.tta_loadelim.specs.AvailableSlots.{IsServed, AreServed}
 use Rattle.tta_loadelim.specs.Copied.{is_one_of, copy_of, AreCopied, ends, stays, copies}
 use Rattle.tta_loadelim.specs.Thinned.{AreThinned, ends as none_thinned, stays as stays_thinned, goes}
 use Rattle.tta_loadelim.proofs.ServedReads.{served_keep}

@@ -9,7 +9,7 @@ use Rattle.std.proofs.lemmas.Bool.{and_from}
 use Rattle.tta_loadelim.specs.Cited.{Machine, Target, Item, target_of_item, starts, stores_frame}
 use Rattle.tta_moves.proofs.Places.{either}
 use Rattle.tta_loadelim.specs.declared.accesses.Operand.{Operand}
-use Rattle.tta_loadelim.specs.Known.{is_load, stored}
+use Rattle.tta_loadelim.specs.AvailableSlots.{is_load, stored}
 use Rattle.tta_loadelim.specs.Facts.{IsOperand}
 use Rattle.tta_loadelim.specs.Thinned.{is_in, lets_stay, is_over, AreThinned, ends, stays, goes}
 use Rattle.tta_loadelim.proofs.Opened.{load_keeps, store_dry}

@@ -11,7 +11,7 @@ use Rattle.tta_optim.proofs.Copies.{Copies, none_yet, one_more, stuck_means, fir
 use Rattle.tta_optim.proofs.FrameKept.{frame_long}
 use Rattle.tta_reorder.proofs.Carried.{does_open, still_runs}
 use Rattle.tta_reorder.proofs.SameItem.{moves}
-use Rattle.tta_loadelim.specs.Known.{is_load, stored}
+use Rattle.tta_loadelim.specs.AvailableSlots.{is_load, stored}
 use Rattle.tta_loadelim.specs.Thinned.{is_in, is_over, AreThinned, ends, stays, goes}
 use Rattle.tta_loadelim.proofs.Opened.{store_dry, store_puts}
 use Rattle.tta_loadelim.proofs.Seen.{loads_is, Stores, stores_is, operand_whole}

@@ -4,10 +4,10 @@ use Rattle.std.specs.List.{list_all, list_any}
 use Rattle.tta_arch.specs.declared.ends.Source.TheVariants as source
 use Rattle.tta_loadelim.specs.Cited.{Machine, KeptOperand, Port, Item, same_end, copied, target_of_item, place_written, is_unguarded, place_number, starts, stores_frame, operand_place}
 use Rattle.tta_loadelim.specs.declared.accesses.Operand.{Operand}
-use Rattle.tta_loadelim.specs.declared.known.Known.{Known}
-use Rattle.tta_loadelim.specs.declared.known.Change.{Change}
+use Rattle.tta_loadelim.specs.declared.available_slots.AvailableSlots.{AvailableSlots}
+use Rattle.tta_loadelim.specs.declared.available_slots.Change.{Change}
 use Rattle.tta_loadelim.specs.declared.facts.Fact.{Fact}
-use Rattle.tta_loadelim.specs.Known.{known, stored, IsServed}
+use Rattle.tta_loadelim.specs.AvailableSlots.{known, stored, IsServed}
 
 -- two facts are of one slot and one source
 abbrev pub same_fact : Fact → Fact → Bool
@@ -36,7 +36,7 @@ abbrev pub IsNewest : (before : List Item) → Option Item → Type 0
 IsNewest before o = IfSome o (λ w. (older : List Item) × (before ≡ w ∷ older))
 
 -- what is noted is so
-pub record Knows (m : Machine) (before : List Item) (k : Known) : Type 0 where
+pub record Knows (m : Machine) (before : List Item) (k : AvailableSlots) : Type 0 where
   pub operand : IsOperand m before k.operand
   pub newest : IsNewest before k.newest
   pub facts : are_among (known m before) k.facts.items ≡ true
@@ -48,7 +48,7 @@ pub record IsChange (m : Machine) (before : List Item) (x : Item) (c : Change) :
   pub slot : IfSome c.slot (λ v. stored m before x ≡ Some v)
 
 -- one item more is served, and what is known after it is noted
-pub record GoesOn (m : Machine) (k : Known) (out : List Item) (x : Item) (later : Known) (more : List Item) : Type 0 where
+pub record GoesOn (m : Machine) (k : AvailableSlots) (out : List Item) (x : Item) (later : AvailableSlots) (more : List Item) : Type 0 where
   pub one : Item
   pub are : more ≡ out ++ one ∷ []
   pub serves : (before : List Item) → Knows m before k → IsServed m before x one

@@ -1,7 +1,7 @@
 -- A block's list with copies and served reads, and without stores that are stored over.
 use Rattle.std.specs.Prelude.{◌≡◌, ℕ, true, List, [], Option, IfSome}
 use Rattle.tta_loadelim.specs.Cited.{Machine, Item, BlockList, is_list, IsEquivalent}
-use Rattle.tta_loadelim.specs.Known.{AreServed}
+use Rattle.tta_loadelim.specs.AvailableSlots.{AreServed}
 use Rattle.tta_loadelim.specs.Copied.{AreCopied, AreSpare}
 use Rattle.tta_loadelim.specs.Thinned.{AreThinned}
 

@@ -2,7 +2,7 @@
 -- the block's.
 use Rattle.std.specs.Prelude.{◌≡◌, ℕ, true, List, [], length}
 use Rattle.tta_loadelim.specs.Cited.{Units, Machine, Item, Held, do_items, has_meaning, KeepsMeaning, KeepsFramed}
-use Rattle.tta_loadelim.specs.Known.{AreServed}
+use Rattle.tta_loadelim.specs.AvailableSlots.{AreServed}
 use Rattle.tta_loadelim.specs.Copied.{are_unread, AreCopied}
 use Rattle.tta_loadelim.specs.Thinned.{AreThinned}
 

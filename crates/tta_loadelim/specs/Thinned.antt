@@ -3,7 +3,7 @@ use Rattle.std.specs.Prelude.{◌≡◌, ℕ, ◌==◌, Bool, true, false, not, 
 use Rattle.std.specs.Option.{option_map_or}
 use Rattle.std.specs.List.{list_any}
 use Rattle.tta_loadelim.specs.Cited.{Machine, Item, target_of_item, starts, may_wait}
-use Rattle.tta_loadelim.specs.Known.{is_load, loaded, stored}
+use Rattle.tta_loadelim.specs.AvailableSlots.{is_load, loaded, stored}
 
 -- A list stores into a slot in any case before it loads the slot, and does not wait for input until then. `before` are the
 -- items before the list, the newest first.

@@ -5,7 +5,7 @@ ghost use Rattle.tta_arch.specs.Machine.{Machine};
 ghost use Rattle.tta_moves.specs.declared.items.Item.{Item};
 ghost use Rattle.tta_moves.specs.Touches.{target_of_item};
 ghost use Rattle.tta_moves.specs.Forms.{sure_source};
-ghost use Rattle.tta_loadelim.specs.Known.{loaded, stored, word_of, port_of, unit_of};
+ghost use Rattle.tta_loadelim.specs.AvailableSlots.{loaded, stored, word_of, port_of, unit_of};
 ghost use Rattle.tta_loadelim.specs.Facts.{IsOperand, StoresBy};
 
 use std::alloc::{AllocError, Global};

@@ -6,12 +6,12 @@ ghost use Rattle.tta_moves.specs.Touches.{is_unguarded};
 ghost use Rattle.tta_loadelim.specs.Copied.{is_one_of, copy_of};
 
 use crate::accesses::{Access, sure_port};
-use crate::known::Known;
+use crate::available_slots::AvailableSlots;
 use crate::serving::alternative;
 use crate::upcoming::NEVER;
 use arrayvec::ArrayVec;
 use tta_arch::{Dest, Source};
-use tta_connect::Joined;
+use tta_connect::TargetMachine;
 use tta_moves::Item;
 use tta_moves::parts::source_of;
 
@@ -32,7 +32,7 @@ const NOTHING: Kept = Kept {
 /// which item next loads its slot.
 #[derive(Clone, Copy)]
 pub struct Plan<'a> {
-    pub on: &'a Joined<'a>,
+    pub on: &'a TargetMachine<'a>,
     pub hub: u8,
     pub accesses: &'a [Access],
     pub next: &'a [usize],
@@ -135,7 +135,7 @@ fn is_result(x: Item) -> bool
 
 /// The word that is worth a copy before an item: a result that is loaded later, and that nothing
 /// else has.
-fn worth(plan: &Plan<'_>, known: &Known, i: usize, x: Item) -> Option<Kept>
+fn worth(plan: &Plan<'_>, known: &AvailableSlots, i: usize, x: Item) -> Option<Kept>
     ensures { IfSome result (λ k. is_unguarded x ≡ true) }
 {
     if !is_result(x) {
@@ -188,7 +188,7 @@ pub fn kept_past(kept: ArrayVec<Kept, 2>, plan: &Plan<'_>, i: usize) -> ArrayVec
 /// The register into which the word of an item is to be copied, which then keeps it.
 pub fn chosen(
     plan: &Plan<'_>,
-    known: &Known,
+    known: &AvailableSlots,
     kept: &mut ArrayVec<Kept, 2>,
     fresh: &[(u8, u8)],
     i: usize,

@@ -3,7 +3,7 @@
 ghost use Rattle.std.specs.Prelude.{◌≡◌, List, true};
 ghost use Rattle.tta_moves.specs.Forms.{same_end};
 ghost use Rattle.tta_loadelim.specs.declared.facts.Fact.{Fact};
-ghost use Rattle.tta_loadelim.specs.Known.{fact};
+ghost use Rattle.tta_loadelim.specs.AvailableSlots.{fact};
 ghost use Rattle.tta_loadelim.specs.Facts.{is_among, are_among};
 
 use arrayvec::ArrayVec;

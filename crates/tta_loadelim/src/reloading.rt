@@ -17,7 +17,7 @@ use crate::upcoming::next_loads;
 use crate::worth::{is_worth, may_store_over};
 use std::alloc::{AllocError, Global};
 use tta_arch::Machine;
-use tta_connect::{BuildTarget, Joined};
+use tta_connect::{BuildTarget, TargetMachine};
 use tta_moves::{BlockList, Item, is_list};
 use tta_optim::with_items;
 use tta_reorder::Checker;
@@ -27,7 +27,7 @@ use tta_reorder::operations::uses_frame;
 /// is one. The only error is out of memory.
 fn served(
     alloc: Global,
-    on: &Joined<'_>,
+    on: &TargetMachine<'_>,
     hub: u8,
     b: &BlockList,
     accesses: &[Access],
@@ -70,7 +70,7 @@ fn without_stores(
 /// is out of memory.
 fn reworked(
     alloc: Global,
-    on: &Joined<'_>,
+    on: &TargetMachine<'_>,
     hub: u8,
     b: &BlockList,
 ) -> Result<Option<BlockList>, AllocError>

@@ -6,16 +6,16 @@ ghost use Rattle.tta_moves.specs.declared.items.Item.{Item};
 ghost use Rattle.tta_moves.specs.declared.items.ItemSource.TheVariants.{Port};
 ghost use Rattle.tta_moves.specs.Touches.{source_of};
 ghost use Rattle.tta_optim.specs.Passes.{with_source};
-ghost use Rattle.tta_loadelim.specs.Known as spec;
-ghost use Rattle.tta_loadelim.specs.Known.{have_one, IsServed};
+ghost use Rattle.tta_loadelim.specs.AvailableSlots as spec;
+ghost use Rattle.tta_loadelim.specs.AvailableSlots.{have_one, IsServed};
 ghost use Rattle.tta_loadelim.specs.Facts.{Knows, GoesOn};
 ghost use Rattle.tta_loadelim.specs.Reworked.{AreWorked};
 
+use crate::available_slots::AvailableSlots;
 use crate::copying::{Plan, chosen, copy_of, kept_past, nothing_kept};
-use crate::known::Known;
 use std::alloc::{AllocError, Global};
 use tta_arch::{Dest, Source};
-use tta_connect::Joined;
+use tta_connect::TargetMachine;
 use tta_moves::{Item, ItemSource};
 
 /// Whether a source is a result port or the hub's register for ways, which loads are read from.
@@ -29,7 +29,12 @@ fn passes(hub: u8, src: Source) -> bool {
 
 /// Another source with the word that an item takes from a port or by the hub, if a bus joins it to
 /// the item's destination.
-pub fn alternative(on: &Joined<'_>, hub: u8, known: &Known, x: Item) -> Option<Source>
+pub fn alternative(
+    on: &TargetMachine<'_>,
+    hub: u8,
+    known: &AvailableSlots,
+    x: Item,
+) -> Option<Source>
     ensures { let m = on.now.machine.now in (before : List Item) → Knows m before known.now
         → IfSome result (λ b. (a : Source) × (source_of x ≡ Port a)
         × (have_one (spec.known m before) a b ≡ true)) }
@@ -62,7 +67,7 @@ fn with_source(x: Item, other: Source) -> Item
 }
 
 /// An item that reads another source with the same word, where there is one.
-fn served(on: &Joined<'_>, hub: u8, known: &Known, x: Item) -> Item
+fn served(on: &TargetMachine<'_>, hub: u8, known: &AvailableSlots, x: Item) -> Item
     ensures { let m = on.now.machine.now in (before : List Item) → Knows m before known.now
         → IsServed m before x result }
 {
@@ -85,7 +90,7 @@ fn is_into(fresh: &[(u8, u8)], x: Item) -> bool {
 
 /// An item that reads another source with the same word, where there is one and the item does not
 /// move into one of some registers.
-fn served_but(plan: &Plan<'_>, known: &Known, fresh: &[(u8, u8)], x: Item) -> Item
+fn served_but(plan: &Plan<'_>, known: &AvailableSlots, fresh: &[(u8, u8)], x: Item) -> Item
     ensures { let m = plan.now.on.now.machine.now in (before : List Item)
         → Knows m before known.now → IsServed m before x result }
 {
@@ -98,7 +103,7 @@ fn served_but(plan: &Plan<'_>, known: &Known, fresh: &[(u8, u8)], x: Item) -> It
 /// Goes past an item, which is served. It fails only where there is no memory.
 fn push_served(
     out: &mut Vec<Item>,
-    known: &mut Known,
+    known: &mut AvailableSlots,
     plan: &Plan<'_>,
     fresh: &[(u8, u8)],
     x: Item,
@@ -124,7 +129,7 @@ pub fn serve(
     ensures { let m = plan.now.on.now.machine.now in
         IfOk result (λ v. AreWorked m fresh.now items.now v.items) }
 {
-    let mut known = Known::new();
+    let mut known = AvailableSlots::new();
     let mut kept = nothing_kept(fresh);
     let mut out = Vec::with_capacity(alloc, items.len())?;
     for (i, x) in items.iter().enumerate() {

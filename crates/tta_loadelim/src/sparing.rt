@@ -66,7 +66,8 @@ fn lives(live: &[(u8, u8)], file: u8, index: u8) -> bool
 /// out of memory.
 fn add_spare(fresh: &mut Vec<(u8, u8)>, hub: u8, index: u8, b: &BlockList) -> Result<(), AllocError>
     requires { index < 3 }
-    ensures { OnOk result (AreSpare hub b.now fresh.old.items → AreSpare hub b.now fresh.new.items) }
+    ensures { OnOk result (AreSpare hub b.now fresh.old.items
+        → AreSpare hub b.now fresh.new.items) }
 {
     if lives(b.live_out.as_slice(), hub, index) {
         return Ok(());

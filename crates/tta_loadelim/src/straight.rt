@@ -8,7 +8,7 @@ ghost use Rattle.tta_loadelim.specs.Trails.{could_take, may_detour};
 
 use std::alloc::{AllocError, Global};
 use tta_arch::{Machine, Source};
-use tta_connect::Joined;
+use tta_connect::TargetMachine;
 use tta_moves::numbers::{PLACES, read_place, written_place};
 use tta_moves::parts::{is_unguarded, source_of};
 use tta_moves::{Item, ItemSource, is_joined};
@@ -105,7 +105,7 @@ fn pass(m: &Machine, hub: u8, trails: &mut Vec<Trail>, x: Item)
 }
 
 /// Whether a move could take another source than a result port in place of its own.
-fn could_take(on: &Joined<'_>, x: Item, other: Option<ItemSource>) -> bool
+fn could_take(on: &TargetMachine<'_>, x: Item, other: Option<ItemSource>) -> bool
     ensures { result ≡ could_take on.now.machine.now x other }
 {
     let Some(src) = other else {
@@ -120,7 +120,7 @@ fn could_take(on: &Joined<'_>, x: Item, other: Option<ItemSource>) -> bool
 }
 
 /// Whether a move may be a detour.
-fn may_detour(on: &Joined<'_>, hub: u8, trails: &[Trail], x: Item) -> bool
+fn may_detour(on: &TargetMachine<'_>, hub: u8, trails: &[Trail], x: Item) -> bool
     ensures { result ≡ may_detour on.now.machine.now hub trails.now x }
 {
     let src = source_of(x);
@@ -134,7 +134,7 @@ fn may_detour(on: &Joined<'_>, hub: u8, trails: &[Trail], x: Item) -> bool
 /// Whether it is known that a list is straight. The only error is out of memory.
 pub fn is_straight(
     alloc: Global,
-    on: &Joined<'_>,
+    on: &TargetMachine<'_>,
     hub: u8,
     items: &[Item],
 ) -> Result<bool, AllocError>

@@ -3,7 +3,7 @@ use Rattle.std.proofs.Common.{◌≡◌, [], ℕ, Option, Some, None, true, fals
 use Rattle.std.specs.List.{sum_by}
 use Rattle.tta_lower.specs.Cited.{Step, Program}
 use Rattle.tta_program.specs.declared.step.Step.TheVariants.{Invoke}
-use Rattle.tta_lower.specs.Liveness.{Known, Block}
+use Rattle.tta_lower.specs.Liveness.{LoweringInput, Block}
 use Rattle.tta_lower.specs.Shape.{may_fall, is_call}
 use Rattle.tta_lower.specs.Lower.{return_after, homes_of, live_past, steps_in}
 
@@ -13,7 +13,7 @@ return-none b (Invoke d callee args) may = cc
 return-none b st may = refl
 
 -- what stays after a step that is no call
-pub live-past : (p : Program) (known : Known) (homes : ℕ)
+pub live-past : (p : Program) (known : LoweringInput) (homes : ℕ)
     (b : Block) (st : Step) → is_call st ≡ false
     → live_past p known homes b st ≡ homes_of p known homes b.owner (known.after b.owner b.last)
 live-past p known homes b (Invoke d callee args) none = cc

@@ -6,7 +6,7 @@ use Rattle.std.specs.Option.{option_map_or}
 use Rattle.tta_lower.specs.Cited.{Step, Load, Take, Store, When, End, Program, step_at, RBlock, Src, Proc, IsProgram, Exit}
 use Rattle.tta_program.specs.declared.step.Step.TheVariants.{Copy, Apply, Put, If, Goto, Invoke, Return, Halt}
 use Rattle.tta_lower.specs.declared.numbers.Numbers.{Numbers}
-use Rattle.tta_lower.specs.Liveness.{Known, Block, Has, Homes, IsFlow, leads}
+use Rattle.tta_lower.specs.Liveness.{LoweringInput, Block, Has, Homes, IsFlow, leads}
 use Rattle.tta_lower.specs.Lower.{Part, Entry, Steps, Returned, parts, proc_parts, number_of, entry_number, block_of, live_past, Answers}
 use Rattle.tta_lower.specs.Members.{In}
 use Rattle.tta_lower.specs.Tables.{HasNumbers, number_in}
@@ -18,7 +18,7 @@ use Rattle.tta_lower.proofs.Callers.{called}
 use Rattle.tta_lower.proofs.Placed.{span-there, proc-there}
 use Rattle.tta_lower.proofs.Shutting.{IsPartOf}
 
-module _ (p : Program) (known : Known) (homes : ℕ) where
+module _ (p : Program) (known : LoweringInput) (homes : ℕ) where
   stays : (b : Block) (st : Step) → stays_after known.home (vars_of p b.owner) homes b.owner (known.after b.owner b.last) st ≡ live_past p known homes b st
   stays b (Copy d s) = refl
   stays b (Apply d op x y) = refl
@@ -79,7 +79,7 @@ exit-same p home f g e h owner at (Return s) step entry = refl
 exit-same p home f g e h owner at Halt step entry = refl
 exit-same p home f g e h owner at End step entry = refl
 
-module _ (p : Program) (known : Known) (homes : ℕ)
+module _ (p : Program) (known : LoweringInput) (homes : ℕ)
     (sound : IsProgram p) (flow : IsFlow p known.blocks) (answers : Answers p known homes)
     (n : Numbers) (has : HasNumbers p (parts p known.blocks known.first) n (length (parts p known.blocks known.first))) where
   -- the number of a block of steps

@@ -4,7 +4,7 @@ use Rattle.tta_lower.specs.Cited.{Units, Step, Program, IsProgram, Running, Wait
 use Rattle.tta_program.specs.Sequential as program
 use Rattle.tta_program.specs.Sequential.{Frame}
 use Rattle.tta_lir.specs.Meaning.{State}
-use Rattle.tta_lower.specs.Liveness.{Known, Block, Has, IsFlow, IsHomes}
+use Rattle.tta_lower.specs.Liveness.{LoweringInput, Block, Has, IsFlow, IsHomes}
 use Rattle.tta_lower.specs.Layout.{vars_of, steps_for, code_from}
 use Rattle.tta_lower.specs.Shape.{Counts, BlockFor, IsLowered}
 use Rattle.tta_lower.specs.Relation.{running, going, HeldBefore, KeepsBack, Callers, AtBlock}
@@ -17,7 +17,7 @@ use Rattle.tta_lower.proofs.Walks.{Walked, Over, walked-after, WalkFrom}
 use Rattle.tta_lower.proofs.Legs.{last-step}
 use Rattle.tta_list.proofs.Lists.{drop-there}
 
-module _ (u : Units) (p : Program) (known : Known) (r : Rir) (number : ℕ → ℕ → ℕ) (entry : ℕ → ℕ) (before : Counts)
+module _ (u : Units) (p : Program) (known : LoweringInput) (r : Rir) (number : ℕ → ℕ → ℕ) (entry : ℕ → ℕ) (before : Counts)
     (flow : IsFlow p known.blocks) (homes : IsHomes p known.home) (sound : IsProgram p) (lowered : IsLowered p known r number entry before) where
   -- what is claimed of the blocks from one on
   abbrev From : List RBlock → Type 0

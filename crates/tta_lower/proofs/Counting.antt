@@ -9,7 +9,7 @@ use Rattle.tta_program.specs.declared.step.Step.TheVariants.{Copy, Apply, Put, I
 use Rattle.tta_lir.specs.declared.code.Place.TheVariants.{Reg, Frame}
 use Rattle.tta_lir.specs.declared.code.RSrc.TheVariants as rsrc
 use Rattle.tta_lir.specs.declared.code.RStep.TheVariants as rstep
-use Rattle.tta_lower.specs.Liveness.{Known, Has, Homes, IsFlow}
+use Rattle.tta_lower.specs.Liveness.{LoweringInput, Has, Homes, IsFlow}
 use Rattle.tta_lower.specs.Layout
 use Rattle.tta_lower.specs.Layout.{vars_of, params_of, place, place_by, source, passes, gives, steps_for, exit_for, keeps_ra, first_value, sets, sets_from}
 use Rattle.tta_lower.specs.Lower.{Part, Entry, Steps, Returned, number_of, entry_number, block_of}
@@ -182,7 +182,7 @@ module _ (p : Program) (home : Homes) where
 
 -- ---- whole blocks
 
-module _ (p : Program) (known : Known) (homes : ℕ) (flow : IsFlow p known.blocks) where
+module _ (p : Program) (known : LoweringInput) (homes : ℕ) (flow : IsFlow p known.blocks) where
   abbrev number : ℕ → ℕ → ℕ
   number = number_of p known.blocks known.first
 

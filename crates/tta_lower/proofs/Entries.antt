@@ -15,7 +15,7 @@ use Rattle.tta_lir.specs.declared.code.RStep.TheVariants as rstep
 use Rattle.tta_lir.specs.declared.code.Exit.TheVariants as exit
 use Rattle.tta_lir.specs.Meaning as code
 use Rattle.tta_lir.specs.Meaning.{State, Return as ReturnTo}
-use Rattle.tta_lower.specs.Liveness.{Known, LiveBefore, LiveAfter, After, Reached, IsFlow, IsHomes}
+use Rattle.tta_lower.specs.Liveness.{LoweringInput, LiveBefore, LiveAfter, After, Reached, IsFlow, IsHomes}
 use Rattle.tta_lower.specs.Layout.{vars_of, params_of, var_slot, value_slot, back_slot, place, place_by, keeps_ra, sets_from}
 use Rattle.tta_lower.specs.Shape.{Counts, StartsAt, ReturnFor, IsLowered, is_call, is_kept}
 use Rattle.tta_lower.specs.Relation.{running, going, HeldBefore, KeepsBack, HasBack, Callers, next_block, AtBlock, AtEntry, AtReturn, Stands, BlockNext, EntryNext, ReturnNext, Untouched}
@@ -39,7 +39,7 @@ save-ra : (u : Units) (at : ℕ) (regs : List (ℕ × ℕ)) (frame : List (ℕ �
 unfolding code.step
 save-ra u at regs frame ra memory input output slot to is = rw is refl
 
-module _ (u : Units) (p : Program) (known : Known) (r : Rir) (number : ℕ → ℕ → ℕ) (entry : ℕ → ℕ) (before : Counts)
+module _ (u : Units) (p : Program) (known : LoweringInput) (r : Rir) (number : ℕ → ℕ → ℕ) (entry : ℕ → ℕ) (before : Counts)
     (flow : IsFlow p known.blocks) (homes : IsHomes p known.home) (sound : IsProgram p) (lowered : IsLowered p known r number entry before) where
   abbrev Goes : program.State → State → ℕ → Type 0
   Goes s t low = Walked u p known r number entry before s t low

@@ -11,7 +11,7 @@ use Rattle.tta_program.specs.declared.step.Step.TheVariants.{Copy, Apply, Put, I
 use Rattle.tta_program.specs.Rules.{is_call}
 use Rattle.tta_lower.specs.declared.numbers.Numbers.{Numbers}
 use Rattle.tta_flow.specs.Blocks as flows
-use Rattle.tta_lower.specs.Liveness.{Known, Block, Has, IsFlow}
+use Rattle.tta_lower.specs.Liveness.{LoweringInput, Block, Has, IsFlow}
 use Rattle.tta_lower.specs.Layout.{vars_of}
 use Rattle.tta_lower.specs.Law.{IsKnown}
 use Rattle.tta_lower.specs.Lower.{Part, Entry, Steps, Returned, parts, block_of}
@@ -119,7 +119,7 @@ module _ (p : Program) (sound : IsProgram p) where
   pub procs_few : length p.procs < 2 ^ 32
   procs_few = let lines = sound.lines in omega (arith, lines)
 
-  module _ (homes : ℕ) (known : Known) (is_known : IsKnown p homes known) where
+  module _ (homes : ℕ) (known : LoweringInput) (is_known : IsKnown p homes known) where
     part-of : (k : ℕ) (x : Part) → slice_get (parts p known.blocks known.first) k ≡ Some x → IsPartOf p known.blocks x
     part-of k x is = parts-are p known homes sound is_known.flow is_known.answers x (has-in (parts p known.blocks known.first) k x is)
 

@@ -11,7 +11,7 @@ use Rattle.tta_list.proofs.Lists.{slice_get-back, some_within}
 use Rattle.tta_lower.specs.Cited.{Step, Load, Take, Store, When, End, Proc, Program, IsProgram, step_at, RBlock, frame_need, block_passes, is_not_slot, wants_next}
 use Rattle.tta_program.specs.declared.step.Step.TheVariants.{Copy, Apply, Put, If, Goto, Invoke, Return, Halt}
 use Rattle.tta_lir.specs.declared.code.Exit.TheVariants as exit
-use Rattle.tta_lower.specs.Liveness.{Known, Block, Has, IsFlow, leads}
+use Rattle.tta_lower.specs.Liveness.{LoweringInput, Block, Has, IsFlow, leads}
 use Rattle.tta_lower.specs.Layout.{vars_of, own, base, var_slot, value_slot, back_slot, size, place, place_by, exit_for}
 use Rattle.tta_lower.specs.Lower.{numbers, code_order, spans_of, Part, Steps, return_after, span_parts, entry_parts, proc_parts, parts, number_of, entry_number, block_of, EndsBefore, InOrder, Answers}
 use Rattle.tta_lower.proofs.Slots.{one-frame}
@@ -35,7 +35,7 @@ numbers-order (b ∷ prefix) c d order (inl e) = subst (λ x. x.last < c.first) 
   ends (a ∷ prefix) h = ends prefix h.1
 numbers-order (b ∷ prefix) c d order (inr more) = numbers-order prefix c d order.1 more
 
-module _ (p : Program) (known : Known) (homes frame_words : ℕ)
+module _ (p : Program) (known : LoweringInput) (homes frame_words : ℕ)
     (sound : IsProgram p) (flow : IsFlow p known.blocks) (answers : Answers p known homes) (need : frame_need p ≤ frame_words) where
   abbrev all : List Part
   all = parts p known.blocks known.first

@@ -11,7 +11,7 @@ use Rattle.tta_program.specs.Sequential.{Frame, returns}
 use Rattle.tta_lir.specs.declared.code.RSrc.TheVariants as rsrc
 use Rattle.tta_lir.specs.Meaning as code
 use Rattle.tta_lir.specs.Meaning.{State}
-use Rattle.tta_lower.specs.Liveness.{Known, Reads, After, Reached, Block, Has, IsFlow, IsHomes, is_plain, is_var, reads, assigned, leads}
+use Rattle.tta_lower.specs.Liveness.{LoweringInput, Reads, After, Reached, Block, Has, IsFlow, IsHomes, is_plain, is_var, reads, assigned, leads}
 use Rattle.tta_lower.specs.Layout.{vars_of, params_of, var_slot, place_by, source, gives, steps_for, exit_for, InFrame, back as back_exit}
 use Rattle.tta_lower.specs.Shape.{Counts, BlockFor, IsLowered, may_fall, is_call}
 use Rattle.tta_lower.specs.Relation.{running, going, one_more, HeldBefore, HeldAfter, IsCaller, KeepsBack, Callers, AtBlock, BlockNext, EntryNext}
@@ -27,7 +27,7 @@ use Rattle.tta_lower.proofs.Falling.{falls-leads, IsPlainExit, plain-exit}
 use Rattle.tta_lower.proofs.Returning.{last-return}
 use Rattle.tta_lower.proofs.Walks.{Walked, walked-after, walked-code, comes-now, ends-now, WalkFrom}
 
-module _ (u : Units) (p : Program) (known : Known) (r : Rir) (number : ℕ → ℕ → ℕ) (entry : ℕ → ℕ) (before : Counts) where
+module _ (u : Units) (p : Program) (known : LoweringInput) (r : Rir) (number : ℕ → ℕ → ℕ) (entry : ℕ → ℕ) (before : Counts) where
   -- ---- the last step of a block
 
   module _ (flow : IsFlow p known.blocks) (homes : IsHomes p known.home) (sound : IsProgram p) (lowered : IsLowered p known r number entry before)

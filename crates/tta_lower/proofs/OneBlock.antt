@@ -8,7 +8,7 @@ use Rattle.tta_program.specs.declared.operand.Src.TheVariants.{Word}
 use Rattle.tta_program.specs.declared.step.Step.TheVariants.{Put, Halt}
 use Rattle.tta_lir.specs.declared.code.RSrc.TheVariants as rsrc
 use Rattle.tta_lir.specs.declared.code.RStep.TheVariants as rstep
-use Rattle.tta_lower.specs.Liveness.{Known, Block, Has, Homes, Reached, First, Then, LiveBefore, Reads, Leads, LiveAfter, After, reads, leads, is_plain}
+use Rattle.tta_lower.specs.Liveness.{LoweringInput, Block, Has, Homes, Reached, First, Then, LiveBefore, Reads, Leads, LiveAfter, After, reads, leads, is_plain}
 use Rattle.tta_lower.specs.Layout.{steps_for, code_from}
 use Rattle.tta_lower.specs.Lower.{numbers, is_home_of, homes_of, lowered, Answers}
 use Rattle.tta_lower.specs.FlowFacts.{names_step, IsFirst, AtBegin, Named, AfterStep, IsRun, AreBlocks}
@@ -165,9 +165,9 @@ module _ (q : Proc) (init : List DataLine) (only : only_constants q.steps ≡ tr
   abbrev span : Block
   span = record { owner = 0; first = 0; last = last }
 
-  module _ (known : Known) (homes : ℕ) (are : AreBlocks (alone q init) known.blocks) (answers : Answers (alone q init) known homes) where
+  module _ (known : LoweringInput) (homes : ℕ) (are : AreBlocks (alone q init) known.blocks) (answers : Answers (alone q init) known homes) where
     -- the same with other blocks
-    abbrev over : List Block → Known
+    abbrev over : List Block → LoweringInput
     over blocks = record { blocks = blocks; home = known.home; first = known.first; after = known.after }
 
     no-entry : list_any (known.first 0) (numbers 0 q.vars) ≡ false

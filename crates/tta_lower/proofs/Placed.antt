@@ -10,7 +10,7 @@ use Rattle.std.proofs.lemmas.List.Sums.{sum_by-cons, sum_by-append, sum_by-take-
 use Rattle.tta_list.proofs.Lists.{slice_get-back}
 use Rattle.tta_lower.specs.Cited.{Src, Step, Proc, Program, step_count, IsProgram, step_at, Rir}
 use Rattle.tta_program.specs.declared.step.Step.TheVariants.{Invoke}
-use Rattle.tta_lower.specs.Liveness.{Known, Block, Has, IsFlow}
+use Rattle.tta_lower.specs.Liveness.{LoweringInput, Block, Has, IsFlow}
 use Rattle.tta_lower.specs.Layout.{vars_of}
 use Rattle.tta_lower.specs.Shape.{BlockFor, ReturnFor, EntryFor, IsLowered, StartsAt, AtEntry, AtFirst, may_fall}
 use Rattle.tta_lower.specs.Lower.{numbers, code_order, spans_of, Part, Entry, Steps, Returned, return_after, span_parts, has_entry, entry_parts, proc_parts, parts, procs_before, spans_before, entry_number, number_of, is_home_of, homes_of, block_of, lowered, steps_in, InOrder, Answers}
@@ -20,7 +20,7 @@ use Rattle.tta_lower.proofs.Callers.{live-below, live-after-below}
 use Rattle.tta_lower.proofs.Lists.{In, in-has, filter-in, has-in, in-filter, in-any, in-numbers, part-at, procs-split, spans-split, spans-same, spans-next, begins-behind}
 use Rattle.tta_lower.proofs.Sums.{sum-more, sum-rises, sum-flat_map, code-order-sum}
 
-module _ (p : Program) (known : Known) (homes : ℕ)
+module _ (p : Program) (known : LoweringInput) (homes : ℕ)
     (sound : IsProgram p) (flow : IsFlow p known.blocks) (answers : Answers p known homes) where
   abbrev all : List Part
   all = parts p known.blocks known.first

@@ -11,7 +11,7 @@ use Rattle.tta_program.specs.Sequential as program
 use Rattle.tta_program.specs.Sequential.{Frame, returns}
 use Rattle.tta_lir.specs.Meaning as code
 use Rattle.tta_lir.specs.Meaning.{State}
-use Rattle.tta_lower.specs.Liveness.{Known, LiveAfter, After, Reached, Block, Has, IsFlow, IsHomes}
+use Rattle.tta_lower.specs.Liveness.{LoweringInput, LiveAfter, After, Reached, Block, Has, IsFlow, IsHomes}
 use Rattle.tta_lower.specs.Layout.{value_slot, back_slot, place_by, gives, back as back_exit}
 use Rattle.tta_lower.specs.Shape.{Counts, BlockFor, IsLowered}
 use Rattle.tta_lower.specs.Relation.{running, going, one_more, KeepsBack, Callers, next_block, BlockNext, ReturnNext}
@@ -23,7 +23,7 @@ use Rattle.tta_lower.proofs.Passing.{copy-slot}
 use Rattle.tta_lower.proofs.Frames.{other-own, not-main}
 use Rattle.tta_lower.proofs.Walks.{Walked, comes-now, ends-now}
 
-module _ (u : Units) (p : Program) (known : Known) (r : Rir) (number : ℕ → ℕ → ℕ) (entry : ℕ → ℕ) (before : Counts) where
+module _ (u : Units) (p : Program) (known : LoweringInput) (r : Rir) (number : ℕ → ℕ → ℕ) (entry : ℕ → ℕ) (before : Counts) where
   module _ (flow : IsFlow p known.blocks) (homes : IsHomes p known.home) (sound : IsProgram p) (lowered : IsLowered p known r number entry before)
       (b : Block) (has : Has known.blocks b) (st : Step) (there : step_at p b.owner b.last ≡ Some st)
       (bf : BlockFor p known r number entry before b st) (bs : List RBlock) (rest : List Frame) where

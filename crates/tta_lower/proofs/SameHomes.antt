@@ -4,7 +4,7 @@ use Rattle.std.specs.Prelude.{◌==◌, not, nat_lt, if◌then◌else◌}
 use Rattle.std.specs.Option.{option_map_or}
 use Rattle.std.proofs.lemmas.Bool.{eqb-true, and_parts, lt-ltb}
 use Rattle.std.proofs.lemmas.Bool.Decides.{nat_tests}
-use Rattle.tta_lower.specs.Cited.{Src, Proc, Program, IsProgram, step_at, live_before, live_after, Home, Slot, home_of, AreAllotted, KeepsLaw, IsLiveAtEntry, IsRead, IsAssigned, IsLiveBefore, IsLiveAfter, IsKept, keeps}
+use Rattle.tta_lower.specs.Cited.{Src, Proc, Program, IsProgram, step_at, live_before, live_after, Home, Slot, home_of, SlotsAsScanned, KeepsLaw, IsLiveAtEntry, IsRead, IsAssigned, IsLiveBefore, IsLiveAfter, IsKept, keeps}
 use Rattle.tta_program.specs.declared.step.Step.TheVariants.{Invoke}
 use Rattle.tta_flow.specs.Steps as steps
 use Rattle.tta_alloc.specs.declared.home.Home.TheVariants.{Reg}
@@ -14,7 +14,7 @@ use Rattle.tta_lower.specs.Layout.{vars_of}
 use Rattle.tta_lower.specs.Liveness.{Reached, LiveAfter, Touches, ByRead, ByAssigned, ByBefore, ByAfter, IsHomes}
 use Rattle.tta_lower.proofs.Bridge.{is-flow, blocks-in-order}
 use Rattle.tta_lower.proofs.Callers.{live-below, live-after-below}
-use Rattle.tta_lower.specs.Known.{reg_of, home_by, AnswersKnow}
+use Rattle.tta_lower.specs.LoweringInput.{reg_of, home_by, AnswersKnow}
 use Rattle.tta_lower.proofs.SameSteps.{same_reads, same_assigned}
 use Rattle.tta_lower.proofs.SamePaths.{passes_at, reached_from, live_to, live_from, after_to, after_from}
 use Rattle.tta_lower.proofs.SameBlocks.{are_blocks}
@@ -40,7 +40,7 @@ reg_is (Slot x) k e = absurd cc
 
 -- a register is no slot
 
-module _ (p : Program) (rules : IsProgram p) (homes : ℕ) (h : Homes) (allotted : AreAllotted p homes h) where
+module _ (p : Program) (rules : IsProgram p) (homes : ℕ) (h : Homes) (allotted : SlotsAsScanned p homes h) where
   -- a variable's home, if it is a register
   pub record InReg (owner x k : ℕ) : Type 0 where
     pub var : Owned p owner x

@@ -9,7 +9,7 @@ use Rattle.tta_lir.specs.declared.code.Exit.TheVariants.{Invoke, Halt}
 use Rattle.tta_lir.specs.Meaning as code
 use Rattle.tta_lower.specs.Squares.{squares}
 use Rattle.tta_lower.specs.Layout.{base}
-use Rattle.tta_lower.specs.Liveness.{Known, Block}
+use Rattle.tta_lower.specs.Liveness.{LoweringInput, Block}
 use Rattle.tta_lower.specs.Lower.{lowered}
 
 -- its blocks
@@ -34,7 +34,7 @@ abbrev live_after : (owner at x : ℕ) → Bool
 live_after owner at x = owner == 1 && (x == 0 || (x == 1 || x == 2 && at == 2))
 
 -- what lowering is told
-abbrev known : Known
+abbrev known : LoweringInput
 known = record { blocks = blocks; home = home; first = live_first; after = live_after }
 
 -- the code

@@ -13,7 +13,7 @@ use Rattle.tta_lir.specs.declared.code.Place.TheVariants.{Frame}
 use Rattle.tta_lir.specs.declared.code.Exit.TheVariants as exit
 use Rattle.tta_lir.specs.declared.code.RStep.TheVariants as rstep
 use Rattle.tta_lir.specs.declared.code.RSrc.TheVariants as rsrc
-use Rattle.tta_lower.specs.Liveness.{Known, Block, Has, IsFlow, leads}
+use Rattle.tta_lower.specs.Liveness.{LoweringInput, Block, Has, IsFlow, leads}
 use Rattle.tta_lower.specs.Layout
 use Rattle.tta_lower.specs.Layout.{vars_of, params_of, base, var_slot, value_slot, back_slot, place, place_by, exit_for, keeps_ra, sets_from, steps_for, code_from}
 use Rattle.tta_lower.specs.Lower.{numbers, Part, Entry, Steps, Returned, parts, number_of, entry_number, homes_of, block_of, lowered, Answers}
@@ -29,7 +29,7 @@ use Rattle.tta_lower.proofs.Lengths.{one-of-sum, plain-length}
 use Rattle.tta_lower.proofs.Procs.{proc-below, proc-by-var}
 use Rattle.tta_lower.proofs.Lasts.{last-closed, set-apart}
 
-module _ (p : Program) (known : Known) (homes frame_words : ℕ)
+module _ (p : Program) (known : LoweringInput) (homes frame_words : ℕ)
     (sound : IsProgram p) (flow : IsFlow p known.blocks) (answers : Answers p known homes) (need : frame_need p ≤ frame_words) where
   abbrev all : List Part
   all = parts p known.blocks known.first

@@ -10,7 +10,7 @@ use Rattle.tta_lower.specs.Cited.{Src, Step, Proc, Program, IsProgram, is_src, s
 use Rattle.tta_program.specs.declared.step.Step.TheVariants.{Invoke}
 use Rattle.tta_program.specs.Rules
 use Rattle.tta_lir.specs.declared.code.Place.TheVariants.{Frame}
-use Rattle.tta_lower.specs.Liveness.{Known, Block, Has, IsFlow}
+use Rattle.tta_lower.specs.Liveness.{LoweringInput, Block, Has, IsFlow}
 use Rattle.tta_lower.specs.Layout.{vars_of, base, slots_before, var_slot, value_slot, back_slot, size, place, keeps_ra, sets_from, code_from}
 use Rattle.tta_lower.specs.Lower.{numbers, code_order, spans_of, Part, Entry, Steps, Returned, return_after, span_parts, has_entry, entry_parts, proc_parts, parts, number_of, entry_number, block_of, lowered, Answers}
 use Rattle.tta_lower.proofs.Steps.{step_of}
@@ -106,7 +106,7 @@ IsPartOf p blocks (Entry owner) = owner < length p.procs
 IsPartOf p blocks (Steps b) = Has blocks b
 IsPartOf p blocks (Returned b d callee) = IsReturn p blocks b d callee
 
-module _ (p : Program) (known : Known) (homes : ℕ)
+module _ (p : Program) (known : LoweringInput) (homes : ℕ)
     (sound : IsProgram p) (flow : IsFlow p known.blocks) (answers : Answers p known homes) where
   pub main-in : p.main < length p.procs
   main-in = main-below p known homes sound flow answers

@@ -3,18 +3,18 @@ use Rattle.std.proofs.Common.{◌≡◌, ◌<◌, ◌≤◌, ℕ, Bool, true, Li
 use Rattle.std.specs.Prelude.{◌↔◌}
 use Rattle.std.specs.Option.{option_map_or}
 use Rattle.std.proofs.lemmas.List.{length-map}
-use Rattle.tta_lower.specs.Cited.{AllPairs, Units, Step, Proc, DataLine, Program, IsProgram, step_at, frame_need, only_constants, puts, alone, Rir, one_block, Live, IsLive, count_of, AreAllotted}
+use Rattle.tta_lower.specs.Cited.{AllPairs, Units, Step, Proc, DataLine, Program, IsProgram, step_at, frame_need, only_constants, puts, alone, Rir, one_block, Live, IsLive, count_of, SlotsAsScanned}
 use Rattle.tta_program.specs.declared.step.Step.TheVariants.{Invoke}
 use Rattle.tta_flow.specs.declared.flow.Block.{Block}
 use Rattle.tta_flow.specs.Blocks as flows
 use Rattle.tta_alloc.specs.declared.homes.Homes.{Homes as HomesOf}
 use Rattle.tta_lower.specs.FlowFacts.{AreBlocks}
-use Rattle.tta_lower.specs.Liveness.{Known, Has, IsFlow, LiveBefore, LiveAfter}
+use Rattle.tta_lower.specs.Liveness.{LoweringInput, Has, IsFlow, LiveBefore, LiveAfter}
 use Rattle.tta_lower.specs.Layout.{vars_of}
 use Rattle.tta_lower.specs.Law.{IsKnown, IsRegisterCode}
 use Rattle.tta_lower.specs.Lower.{Part, Entry, Steps, Returned, owner_of, parts, homes_of, live_past, block_of, lowered, Answers}
 use Rattle.tta_lower.specs.Members.{In, Rises}
-use Rattle.tta_lower.specs.Known.{first_by, known_by}
+use Rattle.tta_lower.specs.LoweringInput.{first_by, known_by}
 use Rattle.tta_lower.specs.Statement.{IsCall, IsLiveAt, StandsFor, IsCodeOf}
 use Rattle.tta_lower.proofs.Callers.{live-below, live-after-below}
 use Rattle.tta_lower.proofs.Staying.{homes-rise, homes-only, homes-all}
@@ -44,7 +44,7 @@ all-pairs : {A B : Type 0} (P : A → B → Type 0) (f : A → B) (xs : List A) 
 all-pairs P f [] all = tt
 all-pairs P f (x ∷ xs) all = (all x (inl refl), all-pairs P f xs (λ y is. all y (inr is)))
 
-module _ (p : Program) (known : Known) (homes : ℕ)
+module _ (p : Program) (known : LoweringInput) (homes : ℕ)
     (sound : IsProgram p) (flow : IsFlow p known.blocks) (answers : Answers p known homes) where
   -- the registers that stay are those of the variables that are live
   kept-are : (owner : ℕ) (test : ℕ → Bool) (IsLiveThere : ℕ → Type 0) → ((v : ℕ) → test v ≡ true → IsLiveThere v) → ((v : ℕ) → IsLiveThere v → test v ≡ true)
@@ -116,15 +116,15 @@ module _ (p : Program) (known : Known) (homes : ℕ)
 
 -- a program that only outputs constants is one block
 direct-of : (p : Program) (q : Proc) (init : List DataLine) → p ≡ alone q init → only_constants q.steps ≡ true
-    → (known : Known) (homes : ℕ)
+    → (known : LoweringInput) (homes : ℕ)
     → AreBlocks p known.blocks → Answers p known homes → lowered p known homes ≡ record { blocks = one_block (puts q.steps) ∷ [] }
-direct-of p q init e only = subst (λ (x : Program). (known : Known) (homes : ℕ)
+direct-of p q init e only = subst (λ (x : Program). (known : LoweringInput) (homes : ℕ)
     → AreBlocks x known.blocks → Answers x known homes → lowered x known homes ≡ record { blocks = one_block (puts q.steps) ∷ [] })
     (sym e) (λ known homes are answers. one-block q init only known homes are answers)
 
 -- all that is stated
 pub code-of : (p : Program) (blocks : List Block) (l : Live) (h : HomesOf) (frame_words : ℕ) (r : Rir) → IsProgram p → flows.IsFlow p blocks → IsLive p l
-    → AreAllotted p (count_of h) h → frame_need p ≤ frame_words → r ≡ lowered p (known_by p blocks l h) (count_of h)
+    → SlotsAsScanned p (count_of h) h → frame_need p ≤ frame_words → r ≡ lowered p (known_by p blocks l h) (count_of h)
     → IsCodeOf p blocks l h frame_words r
 code-of p blocks l h frame_words r sound flow live allotted room is = subst (IsCodeOf p blocks l h frame_words) (sym is) (record {
   room = room;

@@ -4,7 +4,7 @@ use Rattle.std.specs.Option.{option_map_or}
 use Rattle.std.specs.List.{list_any}
 use Rattle.std.proofs.lemmas.Bool.{eq-eqb, eqb-true, and_parts, and_from, or_cases}
 use Rattle.tta_lower.specs.Cited.{Program}
-use Rattle.tta_lower.specs.Liveness.{Known}
+use Rattle.tta_lower.specs.Liveness.{LoweringInput}
 use Rattle.tta_lower.specs.Layout.{vars_of}
 use Rattle.tta_lower.specs.Lower.{numbers, is_home_of, homes_of}
 use Rattle.tta_lower.specs.Members.{In, Rises}
@@ -34,7 +34,7 @@ any-there t (x ∷ xs) any = by (or_cases (t x) (list_any t xs) any) (any-there 
   by (inl e) more = (x, inl refl, e)
   by (inr any) more = ((more any).0, inr (more any).1, (more any).2)
 
-module _ (p : Program) (known : Known) (homes : ℕ)
+module _ (p : Program) (known : LoweringInput) (homes : ℕ)
     (few : (owner x k : ℕ) → known.home owner x ≡ Some k → k < homes) (owner : ℕ) (test : ℕ → Bool) where
   abbrev staying : List ℕ
   staying = homes_of p known homes owner test

@@ -4,12 +4,12 @@ use Rattle.tta_lower.specs.Cited.{iterate, Units, Program, step_count, Outcome, 
 use Rattle.tta_program.specs.Sequential as program
 use Rattle.tta_program.specs.Sequential.{Frame}
 use Rattle.tta_lir.specs.Meaning.{State}
-use Rattle.tta_lower.specs.Liveness.{Known}
+use Rattle.tta_lower.specs.Liveness.{LoweringInput}
 use Rattle.tta_lower.specs.Shape.{Counts}
 use Rattle.tta_lower.specs.Relation.{running, going, AtBlock, Stands}
 use Rattle.tta_list.proofs.Iterated.{iterate-add}
 
-module _ (u : Units) (p : Program) (known : Known) (r : Rir) (number : ℕ → ℕ → ℕ) (entry : ℕ → ℕ) (before : Counts) where
+module _ (u : Units) (p : Program) (known : LoweringInput) (r : Rir) (number : ℕ → ℕ → ℕ) (entry : ℕ → ℕ) (before : Counts) where
   -- a run of the program comes, in one step or more, to a state that stands beside one of the register code
   pub record Comes (s : program.State) (t : State) (low : ℕ) : Type 0 where
     pub made : ℕ

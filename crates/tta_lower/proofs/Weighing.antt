@@ -11,7 +11,7 @@ use Rattle.tta_program.specs.declared.step.Step.TheVariants.{Copy, Apply, Put, I
 use Rattle.tta_lir.specs.declared.code.RSrc.TheVariants as rsrc
 use Rattle.tta_lir.specs.declared.code.RStep.TheVariants as rstep
 use Rattle.tta_lir.specs.declared.code.Place.TheVariants.{Frame}
-use Rattle.tta_lower.specs.Liveness.{Known, Block, Has, Homes, IsFlow}
+use Rattle.tta_lower.specs.Liveness.{LoweringInput, Block, Has, Homes, IsFlow}
 use Rattle.tta_lower.specs.Layout
 use Rattle.tta_lower.specs.Layout.{vars_of, params_of, place, source, passes, gives, steps_for, exit_for, keeps_ra, first_value, sets, sets_from}
 use Rattle.tta_lower.specs.Lower.{code_order, spans_of, Part, Entry, Steps, return_after, span_parts, has_entry, entry_parts, proc_parts, parts, number_of, entry_number, block_of, lowered, InOrder, Answers}
@@ -69,7 +69,7 @@ module _ (p : Program) (home : Homes) (g : Step → ℕ) where
       let all = ap (λ k. over_steps p home g owner low k) whole in
       rw (sum_by-cons f b bs) (omega (arith, rest, one, first, second, moved, moved_on, all))
 
-module _ (p : Program) (known : Known) (homes : ℕ)
+module _ (p : Program) (known : LoweringInput) (homes : ℕ)
     (sound : IsProgram p) (flow : IsFlow p known.blocks) (answers : Answers p known homes) where
   abbrev block : Part → RBlock
   block = block_of p known homes

@@ -5,7 +5,7 @@ use Rattle.tta_lower.specs.Cited.{IsPrefixOf, iterate, Units, Program, step_coun
 use Rattle.tta_program.specs.Sequential as program
 use Rattle.tta_program.specs.Sequential.{Frame}
 use Rattle.tta_program.proofs.Growing.{later_output}
-use Rattle.tta_lower.specs.Liveness.{Known, IsFlow, IsHomes}
+use Rattle.tta_lower.specs.Liveness.{LoweringInput, IsFlow, IsHomes}
 use Rattle.tta_lower.specs.Shape.{Counts, IsLowered}
 use Rattle.tta_lower.specs.Relation.{running, going, Stands}
 use Rattle.tta_lower.specs.Keeps.{EndAlike, KeepsMeaning}
@@ -21,7 +21,7 @@ leg-stays : (u : Units) (r : Rir) (at : ℕ) (regs : List (ℕ × ℕ)) (frame :
 unfolding leg
 leg-stays u r at regs frame ra memory input output outcome ended = rw ended refl
 
-module _ (u : Units) (p : Program) (known : Known) (r : Rir) (number : ℕ → ℕ → ℕ) (entry : ℕ → ℕ) (before : Counts)
+module _ (u : Units) (p : Program) (known : LoweringInput) (r : Rir) (number : ℕ → ℕ → ℕ) (entry : ℕ → ℕ) (before : Counts)
     (flow : IsFlow p known.blocks) (homes : IsHomes p known.home) (sound : IsProgram p) (lowered : IsLowered p known r number entry before) where
   -- the first state of the program
   abbrev first : (memory input : List ℕ) → program.State

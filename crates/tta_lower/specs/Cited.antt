@@ -1,5 +1,5 @@
 -- What the definitions and lemmas of this crate cite of other crates, passed on from one place. Declares nothing.
-pub use Rattle.tta_alloc.specs.Allotted.{AreAllotted}
+pub use Rattle.tta_alloc.specs.Allotted.{SlotsAsScanned}
 unfoldable pub use Rattle.tta_alloc.specs.Homes.{count_of, home_of}
 pub use Rattle.tta_alloc.specs.Intervals.{IsAssigned, IsKept, IsLiveAfter, IsLiveAtEntry, IsLiveBefore, IsRead, keeps}
 pub use Rattle.tta_alloc.specs.Law.{KeepsLaw}

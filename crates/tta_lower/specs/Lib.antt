@@ -11,7 +11,7 @@ pub mod Members
 pub mod FlowFacts
 pub mod Tables
 pub mod Laid
-pub mod Known
+pub mod LoweringInput
 pub mod Plan
 pub mod Statement
 pub mod Squares

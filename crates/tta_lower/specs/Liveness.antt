@@ -150,7 +150,7 @@ pub record IsHomes (p : Program) (home : Homes) : Type 0 where
 -- ---- all of it
 
 -- what lowering is told of a program
-pub record Known : Type 0 where
+pub record LoweringInput : Type 0 where
   -- its blocks in the order of its text
   pub blocks : List Block
   -- the home of each of its variables

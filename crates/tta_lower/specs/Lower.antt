@@ -8,7 +8,7 @@ use Rattle.tta_lir.specs.declared.code.Place.TheVariants.{Frame}
 use Rattle.tta_lir.specs.declared.code.RSrc.TheVariants as rsrc
 use Rattle.tta_lir.specs.declared.code.RStep.TheVariants as rstep
 use Rattle.tta_lir.specs.declared.code.Exit.TheVariants as exit
-use Rattle.tta_lower.specs.Liveness.{Block, Has, Known, LiveBefore, LiveAfter}
+use Rattle.tta_lower.specs.Liveness.{Block, Has, LoweringInput, LiveBefore, LiveAfter}
 pub use Rattle.tta_lower.specs.declared.part.Part.{Part}
 pub use Rattle.tta_lower.specs.declared.part.Part.TheVariants.{Entry, Steps, Returned}
 use Rattle.tta_lower.specs.Layout.{vars_of, value_slot, place, code_from, exit_for, keeps_ra, sets_from}
@@ -84,7 +84,7 @@ module _ (p : Program) (blocks : List Block) (live_first : (owner x : ℕ) → B
 
 -- ---- blocks of register code
 
-module _ (p : Program) (known : Known) (homes : ℕ) where
+module _ (p : Program) (known : LoweringInput) (homes : ℕ) where
   -- whether a variable that passes a test has a home register
   abbrev pub is_home_of : (owner : ℕ) → (test : ℕ → Bool) → ℕ → ℕ → Bool
   is_home_of owner test k x = test x && option_map_or (λ h. h == k) (known.home owner x) false
@@ -141,7 +141,7 @@ InOrder (b ∷ bs) = EndsBefore b bs × InOrder bs
 
 -- The blocks of each procedure stand in order, the answers on liveness are right at each entry and at the end of each
 -- block, and the home registers are so many.
-pub record Answers (p : Program) (known : Known) (homes : ℕ) : Type 0 where
+pub record Answers (p : Program) (known : LoweringInput) (homes : ℕ) : Type 0 where
   pub order : (owner : ℕ) → InOrder (spans_of known.blocks owner)
   pub first_only : (owner x : ℕ) → known.first owner x ≡ true → LiveBefore p owner x 0
   pub first_all : (owner x : ℕ) → LiveBefore p owner x 0 → known.first owner x ≡ true

@@ -5,7 +5,7 @@ use Rattle.tta_lower.specs.declared.plan.Plan.{Plan}
 use Rattle.tta_lower.specs.declared.numbers.Numbers.{Numbers}
 use Rattle.tta_lower.specs.Liveness.{Homes}
 use Rattle.tta_lower.specs.Lower.{Part}
-use Rattle.tta_lower.specs.Known.{home_by, first_by, after_by}
+use Rattle.tta_lower.specs.LoweringInput.{home_by, first_by, after_by}
 use Rattle.tta_lower.specs.Tables.{number_in}
 use Rattle.tta_lower.specs.Laid.{test_of, block_by}
 

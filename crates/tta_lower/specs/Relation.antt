@@ -5,7 +5,7 @@ use Rattle.tta_program.specs.declared.step.Step.TheVariants.{Invoke}
 use Rattle.tta_program.specs.Sequential as program
 use Rattle.tta_program.specs.Sequential.{Frame}
 use Rattle.tta_lir.specs.Meaning.{State, Return}
-use Rattle.tta_lower.specs.Liveness.{Known, LiveBefore, LiveAfter, Block, Has, Homes}
+use Rattle.tta_lower.specs.Liveness.{LoweringInput, LiveBefore, LiveAfter, Block, Has, Homes}
 use Rattle.tta_lower.specs.Layout.{vars_of, params_of, back_slot, value_slot, var_slot, InFrame, place}
 use Rattle.tta_lower.specs.Shape.{Counts, EntryFor}
 
@@ -93,7 +93,7 @@ module _ (p : Program) (blocks : List Block) (number : ℕ → ℕ → ℕ) wher
 
 -- ---- where a block begins
 
-module _ (p : Program) (known : Known) (r : Rir) (number : ℕ → ℕ → ℕ) (entry : ℕ → ℕ) (before : Counts) where
+module _ (p : Program) (known : LoweringInput) (r : Rir) (number : ℕ → ℕ → ℕ) (entry : ℕ → ℕ) (before : Counts) where
   -- at the block that stands for the steps of the program that come next
   pub record AtBlock (f : Frame) (rest : List Frame) (at : ℕ) (regs : List (ℕ × ℕ)) (frame : List (ℕ × Kept)) : Type 0 where
     pub block : Block

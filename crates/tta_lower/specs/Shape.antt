@@ -7,7 +7,7 @@ use Rattle.tta_lir.specs.declared.code.Place.TheVariants.{Frame}
 use Rattle.tta_lir.specs.declared.code.RSrc.TheVariants as rsrc
 use Rattle.tta_lir.specs.declared.code.RStep.TheVariants as rstep
 use Rattle.tta_lir.specs.declared.code.Exit.TheVariants as exit
-use Rattle.tta_lower.specs.Liveness.{Known, LiveBefore, LiveAfter, Block, Has, is_plain}
+use Rattle.tta_lower.specs.Liveness.{LoweringInput, LiveBefore, LiveAfter, Block, Has, is_plain}
 use Rattle.tta_lower.specs.Layout.{place, code_from, exit_for, keeps_ra, sets_from, value_slot, vars_of}
 
 -- whether a step may go on to the next one without a transfer
@@ -28,7 +28,7 @@ is_kept c k = list_any (λ l. l == k) c.live_out
 abbrev pub Counts : Type 0
 Counts = ℕ → ℕ
 
-module _ (p : Program) (known : Known) (r : Rir) (number : ℕ → ℕ → ℕ) (entry : ℕ → ℕ) (before : Counts) where
+module _ (p : Program) (known : LoweringInput) (r : Rir) (number : ℕ → ℕ → ℕ) (entry : ℕ → ℕ) (before : Counts) where
   -- the block that stands for some steps, of which the last is given
   pub record BlockFor (b : Block) (st : Step) : Type 0 where
     pub code : RBlock

@@ -11,7 +11,7 @@ use Rattle.tta_lower.specs.Lower.{Part, Entry, Steps, Returned, owner_of, parts,
 use Rattle.tta_lower.specs.Counts.{traffic, asks_part, assigns_part}
 use Rattle.tta_lower.specs.Keeps.{KeepsMeaning}
 use Rattle.tta_lower.specs.Members.{In, Rises}
-use Rattle.tta_lower.specs.Known.{first_by, home_by, known_by}
+use Rattle.tta_lower.specs.LoweringInput.{first_by, home_by, known_by}
 
 -- ---- the home registers that keep their words after a block
 

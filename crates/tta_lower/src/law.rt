@@ -1,7 +1,7 @@
 //! What holds of the register code of every program.
 
 ghost use Rattle.tta_lower.specs.Law.{LowersWell};
-ghost use Rattle.tta_lower.specs.Known.{AnswersKnow};
+ghost use Rattle.tta_lower.specs.LoweringInput.{AnswersKnow};
 
 /// Register code that is made in the given way has the program's meaning and is closed, and asks for
 /// no more than the program.

@@ -8,7 +8,7 @@ ghost use Rattle.tta_program.specs.Rules.{IsProgram};
 ghost use Rattle.tta_flow.specs.Blocks.{IsFlow};
 ghost use Rattle.tta_lower.specs.Liveness.{Block as BlockType, Has};
 ghost use Rattle.tta_lower.specs.Laid.{IsSpan};
-ghost use Rattle.tta_lower.specs.Known.{first_by};
+ghost use Rattle.tta_lower.specs.LoweringInput.{first_by};
 ghost use Rattle.tta_lower.specs.Layout.{vars_of};
 ghost use Rattle.tta_lower.specs.Lower.{numbers, return_after, span_parts, entry_parts, parts, spans_of};
 ghost use Rattle.tta_lower.specs.Tables.{Added, IsSplit};

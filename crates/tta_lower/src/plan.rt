@@ -2,7 +2,7 @@
 
 ghost use Rattle.std.specs.Prelude.{◌≡◌, ◌≢◌, ◌<◌, ◌+◌, ℕ, true, length};
 ghost use Rattle.tta_program.specs.Rules.{is_src};
-ghost use Rattle.tta_lower.specs.Known.{home_by, first_by, after_by};
+ghost use Rattle.tta_lower.specs.LoweringInput.{home_by, first_by, after_by};
 ghost use Rattle.tta_lower.specs.Tables.{AreFirsts};
 ghost use Rattle.tta_lower.specs.Laid.{test_of};
 ghost use Rattle.tta_lower.specs.Lower.{owner_of};

@@ -5,8 +5,8 @@ ghost use Rattle.tta_program.specs.Rules.{IsProgram};
 ghost use Rattle.tta_flow.specs.Blocks.{IsFlow};
 ghost use Rattle.tta_flow.specs.Live.{IsLive};
 ghost use Rattle.tta_alloc.specs.Homes.{count_of};
-ghost use Rattle.tta_alloc.specs.Allotted.{AreAllotted};
-ghost use Rattle.tta_lower.specs.Known.{known_by};
+ghost use Rattle.tta_alloc.specs.Allotted.{SlotsAsScanned};
+ghost use Rattle.tta_lower.specs.LoweringInput.{known_by};
 ghost use Rattle.tta_lower.specs.Lower.{lowered};
 ghost use Rattle.tta_lower.specs.Statement.{IsCodeOf};
 ghost use Rattle.tta_lower.specs.Statement.{IsCause};
@@ -36,7 +36,7 @@ pub fn lower(
 ) -> Result<Rir, LowerError>
     requires flow { IsFlow p.now f.now.blocks }
     requires live { IsLive p.now live.now }
-    requires homes { AreAllotted p.now (count_of homes.now) homes.now }
+    requires homes { SlotsAsScanned p.now (count_of homes.now) homes.now }
     ensures code { IfOk result (λ r. IsCodeOf p.now f.now.blocks live.now homes.now frame_words r) }
     ensures cause { IfErr result (λ e. IsCause p.now frame_words e) }
 {
@@ -56,7 +56,8 @@ fn code_of(alloc: Global, plan: &Plan<'_>, blocks: &[Block]) -> Result<Rir, Allo
     requires sound { IsProgram plan.now.p.now }
     requires flow { IsFlow plan.now.p.now blocks.now }
     requires live { IsLive plan.now.p.now plan.now.live.now }
-    requires homes { AreAllotted plan.now.p.now (count_of plan.now.homes.now) plan.now.homes.now }
+    requires homes { let h = plan.now.homes.now in
+        SlotsAsScanned plan.now.p.now (count_of h) h }
     ensures { IfOk result (λ r. r ≡ lowered plan.now.p.now
         (known_by plan.now.p.now blocks.now plan.now.live.now plan.now.homes.now)
         (count_of plan.now.homes.now)) }

@@ -47,9 +47,13 @@ abbrev pub control_is_last : List Item → Bool
 control_is_last [] = true
 control_is_last (x ∷ xs) = (not (is_control x) || length xs == 0) && control_is_last xs
 
--- a list that a machine can carry out: each item has a slot, control is last, and there are at most 2 ^ 24 items
+-- how many items a list can have, 2 ^ 24
+abbrev pub most_items : ℕ
+most_items = 16777216
+
+-- a list that a machine can carry out: each item has a slot, control is last, and there are not too many items
 abbrev pub is_list : Machine → List Item → Bool
-is_list m items = nat_le (length items) 16777216 && list_all (has_slot m) items && control_is_last items
+is_list m items = nat_le (length items) most_items && list_all (has_slot m) items && control_is_last items
 
 -- ---- the items of a cycle
 

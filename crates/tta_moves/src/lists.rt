@@ -9,7 +9,7 @@ ghost use Rattle.tta_moves.specs.Slots.{carried, joined, fills, has_slot, contro
 use crate::items::{BlockList, Item, ItemSource};
 use crate::parts::is_control;
 use tta_arch::{Dest, GuardRef, Machine, Source, Template};
-use tta_connect::{Joined, Net};
+use tta_connect::{Net, TargetMachine};
 
 /// How many items a list has at most.
 const MAX_ITEMS: usize = 1 << 24;
@@ -68,7 +68,7 @@ fn is_filled(m: &Machine, imm: u8, reg: u8) -> bool
 }
 
 /// Whether an item has a bus or a template where it is alone in its cycle.
-fn has_slot(on: &Joined<'_>, x: Item) -> bool
+fn has_slot(on: &TargetMachine<'_>, x: Item) -> bool
     ensures { result ≡ has_slot on.now.machine.now x }
 {
     match x {
@@ -78,7 +78,7 @@ fn has_slot(on: &Joined<'_>, x: Item) -> bool
 }
 
 /// Whether each item has a bus or a template.
-fn have_slots(on: &Joined<'_>, items: &[Item]) -> bool
+fn have_slots(on: &TargetMachine<'_>, items: &[Item]) -> bool
     ensures { result ≡ list_all (has_slot on.now.machine.now) items.now }
 {
     items.iter().all(|x| has_slot(on, *x))
@@ -106,5 +106,5 @@ pub fn is_list(m: &Machine, net: &Net, b: &BlockList) -> bool
     if items.len() > MAX_ITEMS {
         return false;
     }
-    have_slots(&Joined { machine: m, net }, items) && control_is_last(items)
+    have_slots(&TargetMachine { machine: m, net }, items) && control_is_last(items)
 }

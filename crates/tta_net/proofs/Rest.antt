@@ -5,7 +5,7 @@ use Rattle.std.specs.List.{list_any}
 use Rattle.std.proofs.lemmas.Bool.{cases_lt, eq-eqb, or_right, or_left}
 use Rattle.std.proofs.lemmas.List.Folds.{list_any-append}
 use Rattle.std.proofs.lemmas.Option.{slice_get_past}
-use Rattle.tta_net.specs.Cited.{Units, State, start, Core, Network, Joined, joined, turn, interleaved, cycles, first_states}
+use Rattle.tta_net.specs.Cited.{Units, State, start, Core, Network, NetworkCore, joined, turn, interleaved, cycles, first_states}
 use Rattle.tta_kahn.proofs.Clusters.{turn_none, turn_some, next_core}
 use Rattle.tta_net.specs.Clusters.{fault_at}
 use Rattle.tta_net.specs.Rounds.{numbers, steps_in, after_rounds}
@@ -37,19 +37,19 @@ module _ (u : Units) (cores : List Core) (feeds : List (Option ℕ)) (memories :
   abbrev net : Network State
   net = cycles u cores feeds
 
-  abbrev begin : List (Joined State)
+  abbrev begin : List (NetworkCore State)
   begin = joined (first_states cores memories)
 
-  abbrev at : ℕ → List (Joined State)
+  abbrev at : ℕ → List (NetworkCore State)
   at made = after_rounds net (length cores) begin made
 
-  length_turn : (cs : List (Joined State)) (k : ℕ) → length (turn net cs k) ≡ length cs
+  length_turn : (cs : List (NetworkCore State)) (k : ℕ) → length (turn net cs k) ≡ length cs
   length_turn cs k = by (slice_get cs k) refl where
-    by : (o : Option (Joined State)) → slice_get cs k ≡ o → length (turn net cs k) ≡ length cs
+    by : (o : Option (NetworkCore State)) → slice_get cs k ≡ o → length (turn net cs k) ≡ length cs
     by None none = ap length (turn_none net cs k none)
     by (Some c) there = ap length (turn_some net cs k c there) ∙ length_set cs k (next_core net cs k c)
 
-  length_steps : (cs : List (Joined State)) (steps : List ℕ) → length (interleaved net cs steps) ≡ length cs
+  length_steps : (cs : List (NetworkCore State)) (steps : List ℕ) → length (interleaved net cs steps) ≡ length cs
   length_steps cs [] = refl
   length_steps cs (k ∷ steps) = length_steps (turn net cs k) steps ∙ length_turn cs k
 

@@ -5,7 +5,7 @@ use Rattle.std.specs.List.{list_any}
 use Rattle.std.proofs.lemmas.Bool.{cases_lt}
 use Rattle.std.proofs.lemmas.List.{length-replicate}
 use Rattle.std.proofs.lemmas.List.Sums.{fold-append}
-use Rattle.tta_net.specs.Cited.{Units, State, Core, Network, Joined, turn, cycles}
+use Rattle.tta_net.specs.Cited.{Units, State, Core, Network, NetworkCore, turn, cycles}
 use Rattle.tta_net.specs.declared.step_result.StepResult.{StepResult}
 use Rattle.tta_net.specs.declared.step_result.StepResult.TheVariants as turn_told
 use Rattle.tta_net.specs.Clusters.{HeldCluster, IsClusterOf, StandsFor, feeds_of, made_by}
@@ -19,12 +19,12 @@ pub record IsRunSoFar (u : Units) (cores : List Core) (old now : HeldCluster) (l
   pub rounds : now.rounds ≡ old.rounds
   pub turns : length last ≡ length cores
   pub counted : (k : ℕ) → made_by now k ≤ made
-  pub next : (cs : List (Joined State)) → StandsFor cores old cs → StandsFor cores now (after_rounds (cycles u cores (feeds_of old)) (length cores) cs made)
-  pub went : (cs : List (Joined State)) → StandsFor cores old cs → (i : ℕ) → i < made → went_in (cycles u cores (feeds_of old)) (length cores) cs i ≡ true
-  pub told : (cs : List (Joined State)) → StandsFor cores old cs → map (λ t. Some t) last ≡ last_answers (cycles u cores (feeds_of old)) (length cores) cs made
+  pub next : (cs : List (NetworkCore State)) → StandsFor cores old cs → StandsFor cores now (after_rounds (cycles u cores (feeds_of old)) (length cores) cs made)
+  pub went : (cs : List (NetworkCore State)) → StandsFor cores old cs → (i : ℕ) → i < made → went_in (cycles u cores (feeds_of old)) (length cores) cs i ≡ true
+  pub told : (cs : List (NetworkCore State)) → StandsFor cores old cs → map (λ t. Some t) last ≡ last_answers (cycles u cores (feeds_of old)) (length cores) cs made
 
 -- a round more is made from where the rounds before it led
-pub round_more : (net : Network State) (count : ℕ) (cs : List (Joined State)) (made : ℕ)
+pub round_more : (net : Network State) (count : ℕ) (cs : List (NetworkCore State)) (made : ℕ)
     → after_rounds net count cs (suc made) ≡ round net count (after_rounds net count cs made)
 round_more net count cs made = fold-append (turn net) cs (steps_in count made) (numbers count)
 
@@ -58,23 +58,23 @@ pub record RoundSo (u : Units) (cores : List Core) (now new : HeldCluster) (turn
   pub feeds : feeds_of new ≡ feeds_of now
   pub rounds : new.rounds ≡ now.rounds
   pub counted : (k : ℕ) → made_by new k ≤ made_by now k + 1
-  pub next : (cs : List (Joined State)) → StandsFor cores now cs → StandsFor cores new (round (cycles u cores (feeds_of now)) (length cores) cs)
-  pub told : (cs : List (Joined State)) → StandsFor cores now cs → map (λ t. Some t) turns ≡ answers (cycles u cores (feeds_of now)) cs (numbers (length cores))
+  pub next : (cs : List (NetworkCore State)) → StandsFor cores now cs → StandsFor cores new (round (cycles u cores (feeds_of now)) (length cores) cs)
+  pub told : (cs : List (NetworkCore State)) → StandsFor cores now cs → map (λ t. Some t) turns ≡ answers (cycles u cores (feeds_of now)) cs (numbers (length cores))
   pub ran_is : ran ≡ list_any is_ran turns
 
 module _ (u : Units) (cores : List Core) (old now new : HeldCluster) (last turns : List StepResult) (ran : Bool) (made : ℕ) (was : IsRunSoFar u cores old now last made) (so : RoundSo u cores now new turns ran) where
   abbrev net : Network State
   net = cycles u cores (feeds_of old)
 
-  answered : (cs : List (Joined State)) → StandsFor cores old cs → map (λ t. Some t) turns ≡ answers_in net (length cores) cs made
+  answered : (cs : List (NetworkCore State)) → StandsFor cores old cs → map (λ t. Some t) turns ≡ answers_in net (length cores) cs made
   answered cs stands =
       so.told (after_rounds net (length cores) cs made) (was.next cs stands)
       ∙ ap (λ fs. answers (cycles u cores fs) (after_rounds net (length cores) cs made) (numbers (length cores))) was.feeds
 
-  went_is : (cs : List (Joined State)) → StandsFor cores old cs → went_in net (length cores) cs made ≡ ran
+  went_is : (cs : List (NetworkCore State)) → StandsFor cores old cs → went_in net (length cores) cs made ≡ ran
   went_is cs stands = sym (ap (list_any (λ o. option_map_or is_ran o false)) (answered cs stands)) ∙ any_some turns ∙ sym so.ran_is
 
-  stood : (cs : List (Joined State)) → StandsFor cores old cs → StandsFor cores new (after_rounds net (length cores) cs (suc made))
+  stood : (cs : List (NetworkCore State)) → StandsFor cores old cs → StandsFor cores new (after_rounds net (length cores) cs (suc made))
   stood cs stands =
       subst (StandsFor cores new) (sym (round_more net (length cores) cs made))
       (subst (λ fs. StandsFor cores new (round (cycles u cores fs) (length cores) (after_rounds net (length cores) cs made))) was.feeds
@@ -101,7 +101,7 @@ module _ (u : Units) (cores : List Core) (old now new : HeldCluster) (last turns
   }
 
   -- none did
-  pub run_rests : ran ≡ false → made < old.rounds → (cs : List (Joined State)) → StandsFor cores old cs → HasEnded net (length cores) cs old.rounds false turns (StandsFor cores new)
+  pub run_rests : ran ≡ false → made < old.rounds → (cs : List (NetworkCore State)) → StandsFor cores old cs → HasEnded net (length cores) cs old.rounds false turns (StandsFor cores new)
   run_rests rests less cs stands = record {
     made = made + 1;
     stops = record {
@@ -117,7 +117,7 @@ module _ (u : Units) (cores : List Core) (old now new : HeldCluster) (last turns
 
 -- all that may be made are made
 pub run_over : (u : Units) (cores : List Core) (old now : HeldCluster) (last : List StepResult) (made : ℕ) → IsRunSoFar u cores old now last made → old.rounds ≤ made
-    → (cs : List (Joined State)) → StandsFor cores old cs → HasEnded (cycles u cores (feeds_of old)) (length cores) cs old.rounds true last (StandsFor cores now)
+    → (cs : List (NetworkCore State)) → StandsFor cores old cs → HasEnded (cycles u cores (feeds_of old)) (length cores) cs old.rounds true last (StandsFor cores now)
 run_over u cores old now last made was past cs stands = record {
   made = made;
   stops = record {

@@ -1,7 +1,7 @@
 -- What a turn of one core comes to.
 use Rattle.std.proofs.Common.{◌≡◌, ℕ, ◌+◌, ◌-◌, ◌&&◌, Bool, true, false, List, [], ◌∷◌, length, Option, refl, sym, ap, subst, ◌∙◌, arith}
 use Rattle.std.specs.Prelude.{if◌then◌else◌, is_none}
-use Rattle.tta_net.specs.Cited.{IsFed, left, Units, Machine, Code, State, Outcome, Running, Halted, Waiting, Fault, next_of, next, Rings, Results, units_of, HeldState, StandsWith, is_fault, Core, Joined, stepped, is_waiting}
+use Rattle.tta_net.specs.Cited.{IsFed, left, Units, Machine, Code, State, Outcome, Running, Halted, Waiting, Fault, next_of, next, Rings, Results, units_of, HeldState, StandsWith, is_fault, Core, NetworkCore, stepped, is_waiting}
 use Rattle.tta_kahn.proofs.Outcomes.{changes}
 use Rattle.tta_net.specs.declared.member.Member.{Member}
 use Rattle.tta_net.specs.declared.step_result.StepResult.TheVariants as turn
@@ -32,7 +32,7 @@ over_same : (u : Units) (m : Machine) (code : Code) (s : State) (o : Outcome) �
 unfolding next
 over_same u m code s o e same = ap (next_of u m code s) e ∙ same
 
-module _ (u : Units) (core : Core) (c : Joined State) (input : List ℕ) where
+module _ (u : Units) (core : Core) (c : NetworkCore State) (input : List ℕ) where
   -- the state in which the cycle begins, and the next
   abbrev pub fed : State
   fed = record c.state { rest = input }

@@ -7,7 +7,7 @@ unfoldable pub use Rattle.tta_code.specs.Cycle.{next}
 pub use Rattle.tta_code.specs.Legal.{IsLegalCode}
 pub use Rattle.tta_code.specs.declared.code.Code.{Code}
 pub use Rattle.tta_kahn.specs.Cluster.{cycle_of, cycles, first_states, is_waiting}
-pub use Rattle.tta_kahn.specs.Network.{AreAtRest, Joined, Network, after_step, fed_to, feeder_of, interleaved, joined, output_of, stepped, turn}
+pub use Rattle.tta_kahn.specs.Network.{AreAtRest, NetworkCore, Network, after_step, fed_to, feeder_of, interleaved, joined, output_of, stepped, turn}
 pub use Rattle.tta_kahn.specs.declared.cores.Core.{Core}
 pub use Rattle.tta_flight.specs.Flight.{StayBeside}
 pub use Rattle.tta_flight.specs.Rings.{Rings, is_among, longest_of}

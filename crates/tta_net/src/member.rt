@@ -7,7 +7,7 @@ ghost use Rattle.tta_ops.specs.Set.{stated};
 ghost use Rattle.tta_code.specs.Cycle.{State};
 ghost use Rattle.tta_flight.specs.Flight.{StayBeside};
 ghost use Rattle.tta_sim.specs.Results.{AreKept};
-ghost use Rattle.tta_kahn.specs.Network.{Joined, after_step, stepped};
+ghost use Rattle.tta_kahn.specs.Network.{NetworkCore, after_step, stepped};
 ghost use Rattle.tta_net.specs.Members.{IsMemberOf, StandsAs, alone, turn_of};
 ghost use Rattle.tta_net.specs.Loaded.{CanLoad, IsFirst};
 ghost use Rattle.tta_net.specs.declared.step_result.StepResult.TheVariants as told;
@@ -84,10 +84,10 @@ impl Member {
         }
     }
 
-    /// Makes one cycle, if the core goes on and the cycle's line is quiet, so that it neither takes
+    /// Makes one cycle, if the core goes on and the cycle's line is pure, so that it neither takes
     /// nor outputs a word. Else it answers `None`, and all stays. It takes no memory.
     #[inline(always)]
-    pub fn turn_quietly(
+    pub fn turn_pure(
         &mut self,
         region: &mut Region,
         core: &Core,
@@ -105,18 +105,19 @@ impl Member {
         ensures counted { self.new.state.cycle ≤ self.old.state.cycle + 1 }
         ensures waits { result ≡ None → self.new ≡ self.old }
         ensures stays { result ≡ None → region.new ≡ region.old }
-        ensures next { let U = stated unit_meaning units.now in (c : Joined State) (input : List ℕ)
+        ensures next { let U = stated unit_meaning units.now in
+            (c : NetworkCore State) (input : List ℕ)
             → StandsAs region.old core.now self.old c → IfSome result (λ _.
             StandsAs region.new core.now self.new (stepped (alone U core.now) 0 input c)) }
         ensures answer { let U = stated unit_meaning units.now in
-            (c : Joined State) (input : List ℕ)
+            (c : NetworkCore State) (input : List ℕ)
             → StandsAs region.old core.now self.old c → IfSome result (λ t.
             t ≡ turn_of c.state (after_step (alone U core.now) 0 input c)) }
     {
         let base = self.base;
         if !self
             .state
-            .cycle_quietly(region, base, &core.machine, &core.code, units)
+            .cycle_pure(region, base, &core.machine, &core.code, units)
         {
             return None;
         }
@@ -145,11 +146,12 @@ impl Member {
         ensures feeder { self.new.feeder ≡ self.old.feeder }
         ensures room { self.new.output.room ≡ self.old.output.room }
         ensures counted { self.new.state.cycle ≤ self.old.state.cycle + 1 }
-        ensures next { let U = stated unit_meaning units.now in (c : Joined State) (input : List ℕ)
+        ensures next { let U = stated unit_meaning units.now in
+            (c : NetworkCore State) (input : List ℕ)
             → StandsAs region.old core.now self.old c → IsFed input next
             → StandsAs region.new core.now self.new (stepped (alone U core.now) 0 input c) }
         ensures answer { let U = stated unit_meaning units.now in
-            (c : Joined State) (input : List ℕ)
+            (c : NetworkCore State) (input : List ℕ)
             → StandsAs region.old core.now self.old c → IsFed input next
             → result ≡ turn_of c.state (after_step (alone U core.now) 0 input c) }
     {

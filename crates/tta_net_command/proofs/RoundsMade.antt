@@ -3,7 +3,7 @@ use Rattle.std.proofs.Common.{◌≡◌, ℕ, inl, inr, Bool, true, false, List,
 use Rattle.std.specs.Option.{option_map_or}
 use Rattle.std.proofs.lemmas.Bool.{cases_lt}
 use Rattle.std.proofs.lemmas.Option.{slice_get_past}
-use Rattle.tta_net_command.specs.Cited.{World, Output, IsPut, IsCut, lines_text, Units, State, Core, Network, Joined, joined, AreAtRest, cycles, first_states, StepResult, HeldCluster, IsClusterOf, StandsFor, words_of, fault_by, fault_told, output_at, fault_at, after_rounds, HasEnded, Status, IsTaken}
+use Rattle.tta_net_command.specs.Cited.{World, Output, IsPut, IsCut, lines_text, Units, State, Core, Network, NetworkCore, joined, AreAtRest, cycles, first_states, StepResult, HeldCluster, IsClusterOf, StandsFor, words_of, fault_by, fault_told, output_at, fault_at, after_rounds, HasEnded, Status, IsTaken}
 use Rattle.tta_ports.proofs.Worlds.{same_world}
 use Rattle.tta_net.proofs.Together.{output_same, fault_same}
 use Rattle.tta_net.proofs.Rest.{rounds_rest}
@@ -13,7 +13,7 @@ use Rattle.tta_net_command.specs.Net.{net_lines, net_text, first_fault, rounds_s
 use Rattle.tta_net_command.proofs.NetLines.{net_same, first_same, none_first}
 
 -- what rounds came to, with something else that is true of the cores then
-pub ended_with : {net : Network State} {count : ℕ} {cs : List (Joined State)} {most : ℕ} {is_running : Bool} {last : List StepResult} {P Q : List (Joined State) → Type 0}
+pub ended_with : {net : Network State} {count : ℕ} {cs : List (NetworkCore State)} {most : ℕ} {is_running : Bool} {last : List StepResult} {P Q : List (NetworkCore State) → Type 0}
     → (ended : HasEnded net count cs most is_running last P) → Q (after_rounds net count cs ended.made) → HasEnded net count cs most is_running last Q
 ended_with ended is = record {
   made = ended.made;
@@ -25,7 +25,7 @@ ended_with ended is = record {
 }
 
 -- a text that was put, and the status that goes with it
-put_well : (is_running : Bool) (last : List StepResult) (cs : List (Joined State)) (old new : Output) (fault : Option (ℕ × ℕ))
+put_well : (is_running : Bool) (last : List StepResult) (cs : List (NetworkCore State)) (old new : Output) (fault : Option (ℕ × ℕ))
     → fault ≡ first_fault (fault_at cs) (length last) → IsPut (net_text cs last) old new → NetPuts is_running last cs old new (rounds_status is_running fault)
 put_well true last cs old new fault is put = (refl, put)
 put_well false last cs old new (Some f) is put = (ap (rounds_status false) is, put)
@@ -36,13 +36,13 @@ module _ (u : Units) (feeds : List (Option ℕ)) (cores : List Core) (memories :
   abbrev net : Network State
   net = cycles u cores feeds
 
-  abbrev begin : List (Joined State)
+  abbrev begin : List (NetworkCore State)
   begin = joined (first_states cores memories)
 
   abbrev Ended : Bool → Type 0
   Ended is_running = HasEnded net (length cores) begin rounds is_running last (StandsFor cores h)
 
-  module _ (cs : List (Joined State)) (stands : StandsFor cores h cs) where
+  module _ (cs : List (NetworkCore State)) (stands : StandsFor cores h cs) where
     text_same : lines_text (net_lines (words_of h) (fault_by h) 0 last) ≡ net_text cs last
     text_same =
         ap lines_text (net_same (words_of h) (fault_by h) (output_at cs) (fault_at cs) (output_same cores h loaded cs stands) (fault_same cores h loaded cs stands) 0 last)

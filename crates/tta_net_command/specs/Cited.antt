@@ -3,7 +3,7 @@ pub use Rattle.tta_code.specs.Cycle.{State}
 pub use Rattle.tta_code.specs.Legal.{IsLegalCode}
 pub use Rattle.tta_code.specs.Whole.{Whole, data_in, laid_by}
 pub use Rattle.tta_kahn.specs.Cluster.{cycles, first_states}
-pub use Rattle.tta_kahn.specs.Network.{AreAtRest, Joined, Network, joined}
+pub use Rattle.tta_kahn.specs.Network.{AreAtRest, NetworkCore, Network, joined}
 pub use Rattle.tta_kahn.specs.declared.cores.Core.{Core}
 pub use Rattle.tta_load.specs.Held.{FileFails, Held, IsHeld, IsTaken, TakesBytes}
 pub use Rattle.tta_load.specs.Images.{IsImageFor, RefusesImage}
@@ -22,7 +22,7 @@ pub use Rattle.tta_net.specs.Rounds.{HasEnded, after_rounds}
 pub use Rattle.tta_net.specs.declared.step_result.StepResult.{StepResult}
 pub use Rattle.tta_ops.specs.Set.{stated}
 pub use Rattle.tta_ops.specs.Units.{Units}
-pub use Rattle.tta_ports.specs.Output.{IsCut, IsPut, IsQuiet, Output}
+pub use Rattle.tta_ports.specs.Output.{IsCut, IsPut, NothingOutput, Output}
 pub use Rattle.tta_ports.specs.Store.{Store}
 pub use Rattle.tta_ports.specs.World.{IsUntouched, World}
 pub use Rattle.tta_report.specs.Lines.{core_lines, line_text, lines_text}

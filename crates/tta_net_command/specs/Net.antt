@@ -1,7 +1,7 @@
 -- What the command `net` does: cores that are joined by queues make rounds, and what they have output is printed.
 use Rattle.std.specs.Prelude.{◌≡◌, ◌⊎◌, ℕ, zero, suc, ◌+◌, Bool, true, false, List, [], ◌∷◌, ◌++◌, length, Option, Some, None}
 use Rattle.std.specs.Option.{option_map_or}
-use Rattle.tta_net_command.specs.Cited.{World, IsUntouched, Output, IsQuiet, IsPut, IsCut, Line, lines_text, core_lines, Units, State, Core, Joined, joined, AreAtRest, cycles, first_states, StepResult, output_at, fault_at, HasEnded, Status, Held, FileFails}
+use Rattle.tta_net_command.specs.Cited.{World, IsUntouched, Output, NothingOutput, IsPut, IsCut, Line, lines_text, core_lines, Units, State, Core, NetworkCore, joined, AreAtRest, cycles, first_states, StepResult, output_at, fault_at, HasEnded, Status, Held, FileFails}
 use Rattle.tta_report.specs.declared.line.Line.TheVariants as line
 use Rattle.tta_net.specs.declared.step_result.StepResult.TheVariants as turn
 use Rattle.tta_load.specs.declared.status.Status.TheVariants as status
@@ -23,7 +23,7 @@ net_lines output fault core [] = []
 net_lines output fault core (turn ∷ turns) = core_lines core (output core) (turn_line (fault core) turn) ++ net_lines output fault (core + 1) turns
 
 -- all that is printed of cores that have come to these states, where these were their last turns
-abbrev pub net_text : List (Joined State) → (last : List StepResult) → List ℕ
+abbrev pub net_text : List (NetworkCore State) → (last : List StepResult) → List ℕ
 net_text cs last = lines_text (net_lines (output_at cs) (fault_at cs) 0 last)
 
 -- ---- how rounds end
@@ -45,7 +45,7 @@ rounds_status false (Some f) = status.MachineFault f.0 f.1
 rounds_status false None = status.Ok
 
 -- cores that have come to these states are reported: their text is put, or a prefix of it
-abbrev pub NetPuts : (is_running : Bool) → (last : List StepResult) → List (Joined State) → (old new : Output) → Status → Type 0
+abbrev pub NetPuts : (is_running : Bool) → (last : List StepResult) → List (NetworkCore State) → (old new : Output) → Status → Type 0
 NetPuts is_running last cs old new status.WriteFault = IsCut (net_text cs last) old new
 NetPuts is_running last cs old new s = (s ≡ rounds_status is_running (first_fault (fault_at cs) (length last))) × IsPut (net_text cs last) old new
 
@@ -58,7 +58,7 @@ pub record HasMadeRounds (u : Units) (feeds : List (Option ℕ)) (cores : List C
 
 -- the same, or there was no memory for them
 abbrev pub NetReports : Units → (feeds : List (Option ℕ)) → List Core → (memories : List (List ℕ)) → (rounds : ℕ) → (old new : Output) → Status → Type 0
-NetReports u feeds cores memories rounds old new status.NoMemory = IsQuiet old new
+NetReports u feeds cores memories rounds old new status.NoMemory = NothingOutput old new
 NetReports u feeds cores memories rounds old new s = HasMadeRounds u feeds cores memories rounds old new s
 
 -- Where these cores feed one another, how the command ends: a core is not taken, and nothing is put; or no file is touched, and the
@@ -66,7 +66,7 @@ NetReports u feeds cores memories rounds old new s = HasMadeRounds u feeds cores
 abbrev pub CoresReport : Units → (feeds : List (Option ℕ)) → (rounds : ℕ) → (names : List (List ℕ)) → (before after : World) → (old new : Output) → Status → Type 0
 CoresReport u feeds rounds names before after old new s =
     let count = cores_in (length names) in
-    (CoresFail u names count before after s × IsQuiet old new)
+    (CoresFail u names count before after s × NothingOutput old new)
     ⊎ ((has : HasCores u before.contents names count)
     × IsUntouched before after × NetReports u feeds has.cores has.memories rounds old new s)
 
@@ -74,6 +74,6 @@ CoresReport u feeds rounds names before after old new s =
 abbrev pub Nets : Units → (rounds : ℕ) → (LINKS : List ℕ) → (names : List (List ℕ)) → (before after : World) → (old new : Output) → Status → Type 0
 Nets u rounds LINKS names before after old new s =
     let count = cores_in (length names) in
-    (FileFails (RefusesLinks count) LINKS 2 before after s × IsQuiet old new)
+    (FileFails (RefusesLinks count) LINKS 2 before after s × NothingOutput old new)
     ⊎ ((links : Held (AreLinks count) before.contents LINKS)
     × CoresReport u links.value rounds names before after old new s)

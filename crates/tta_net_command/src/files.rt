@@ -31,7 +31,8 @@ use tta_topology::{LinksError, read_links};
 fn links_of(alloc: Global, bytes: &[u8], count: u8) -> Result<Vec<Option<u8>>, Status>
     requires short { length bytes.now ≤ 2 ^ 24 }
     requires few { count ≤ 8 }
-    ensures takes { TakesBytes (AreLinks count) (RefusesLinks count) bytes.now (λ v. v.items) result }
+    ensures takes { TakesBytes (AreLinks count) (RefusesLinks count) bytes.now
+        (λ v. v.items) result }
     ensures count { IfOk result (λ v. length v.items ≡ count) }
 {
     match read_links(alloc, bytes, count) {

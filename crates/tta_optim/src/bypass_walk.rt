@@ -10,7 +10,7 @@ ghost use Rattle.tta_optim.specs.Passes.{bypass_items};
 use crate::notes::Notes;
 use std::alloc::{AllocError, Global};
 use tta_arch::{Dest, GuardRef, Machine, Source};
-use tta_connect::Joined;
+use tta_connect::TargetMachine;
 use tta_list::entry_at;
 use tta_moves::numbers::register;
 use tta_moves::{Item, ItemSource, is_joined};
@@ -57,7 +57,7 @@ fn shown_by(m: &Machine, notes: &Notes, src: ItemSource) -> Option<ItemSource>
 
 /// The result port that a move can read in place of its source.
 fn port_by(
-    on: &Joined<'_>,
+    on: &TargetMachine<'_>,
     notes: &Notes,
     guard: Option<GuardRef>,
     src: ItemSource,
@@ -77,7 +77,7 @@ fn port_by(
 
 /// The item, with the result port in place of a register that was copied from it, where a bus joins
 /// the ends.
-fn bypassed(on: &Joined<'_>, notes: &Notes, x: Item) -> Item
+fn bypassed(on: &TargetMachine<'_>, notes: &Notes, x: Item) -> Item
     ensures { result ≡ bypassed_by on.now.machine.now notes.now x }
 {
     let Item::Move { guard, src, dst } = x else {
@@ -97,7 +97,7 @@ fn bypassed(on: &Joined<'_>, notes: &Notes, x: Item) -> Item
 pub fn bypass_items(
     alloc: Global,
     notes: &mut Notes,
-    on: &Joined<'_>,
+    on: &TargetMachine<'_>,
     items: &[Item],
 ) -> Result<Vec<Item>, AllocError>
     requires { list_all (has_slot on.now.machine.now) items.now ≡ true }

@@ -14,7 +14,7 @@ use crate::share_walk::share_items;
 use crate::wanted::LiveOperands;
 use std::alloc::{AllocError, Global};
 use tta_arch::Machine;
-use tta_connect::{Joined, Net};
+use tta_connect::{Net, TargetMachine};
 use tta_list::Items;
 use tta_moves::{BlockList, Item};
 
@@ -41,7 +41,7 @@ pub fn bypass(alloc: Global, b: &BlockList, m: &Machine, net: &Net) -> Result<Bl
     ensures no_more { IfOk result (λ r. DoesNoMore m.now b.now.items r.items) }
     ensures live { IfOk result (λ r. r.live_out ≡ b.now.live_out) }
 {
-    let on = Joined { machine: m, net };
+    let on = TargetMachine { machine: m, net };
     let mut notes = Notes::new(alloc)?;
     let items = bypass_items(alloc, &mut notes, &on, b.items.as_slice())?;
     let r = with_items(alloc, b, items)?;

@@ -16,7 +16,7 @@ use crate::share_walk::share_items;
 use crate::wanted::LiveOperands;
 use std::alloc::{AllocError, Global};
 use tta_arch::Machine;
-use tta_connect::{Joined, Net};
+use tta_connect::{Net, TargetMachine};
 use tta_moves::BlockList;
 
 /// A list after each of the three passes.
@@ -60,7 +60,7 @@ impl Passes {
         &mut self,
         alloc: Global,
         b: &BlockList,
-        on: &Joined<'_>,
+        on: &TargetMachine<'_>,
     ) -> Result<Passed, AllocError>
         requires list { is_list on.now.machine.now b.now.items ≡ true }
         ensures { IfOk result (λ r. IsPassed on.now.machine.now b.now r) }
@@ -99,7 +99,7 @@ pub fn optimise(
     ensures no_more { IfOk result (λ r. DoesNoMore m.now b.now.items r.items) }
     ensures live { IfOk result (λ r. r.live_out ≡ b.now.live_out) }
 {
-    let on = Joined { machine: m, net };
+    let on = TargetMachine { machine: m, net };
     let mut passes = Passes::new(alloc)?;
     let Passed { lively, .. } = passes.passed(alloc, b, &on)?;
     Ok(lively)

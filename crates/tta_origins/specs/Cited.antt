@@ -8,7 +8,7 @@ unfoldable pub use Rattle.tta_flow.specs.Live.{live_after, live_before}
 pub use Rattle.tta_flow.specs.declared.flow.Block.{Block}
 pub use Rattle.tta_flow.specs.declared.live.Live.{Live}
 pub use Rattle.tta_link.specs.Linked.{starts_from}
-pub use Rattle.tta_lower.specs.Known.{home_by, reg_of}
+pub use Rattle.tta_lower.specs.LoweringInput.{home_by, reg_of}
 unfoldable pub use Rattle.tta_lower.specs.Layout.{base}
 pub use Rattle.tta_lower.specs.Layout.{own, place, place_by, slots_before, var_slot, vars_of}
 pub use Rattle.tta_lower.specs.Lower.{owner_of}

@@ -1,7 +1,7 @@
 //! The variables that are live in a block of code, each with its home.
 
 ghost use Rattle.std.specs.Prelude.{◌≡◌, ◌<◌, ◌++◌, OnOk};
-ghost use Rattle.tta_lower.specs.Known.{home_by, reg_of};
+ghost use Rattle.tta_lower.specs.LoweringInput.{home_by, reg_of};
 ghost use Rattle.tta_lower.specs.Layout.{place, place_by, vars_of};
 ghost use Rattle.tta_lower.specs.Lower.{owner_of};
 ghost use Rattle.tta_stages.specs.Words.{kept_text};

@@ -1,7 +1,7 @@
 -- The command `circuit NAME`, over a unit that hands in circuits.
 use Rattle.std.specs.Prelude.{◌≡◌, ◌<◌, ◌⊎◌, ℕ, List, [], ◌∷◌, Bool, false, codes, Option, Some, None, IsSomeAnd, ⊤}
 use Rattle.std.specs.Str.{bytes_eq}
-use Rattle.tta_own_circuits.specs.Cited.{Worked, IsQuiet, Output, Status, TextEnds}
+use Rattle.tta_own_circuits.specs.Cited.{Worked, NothingOutput, Output, Status, TextEnds}
 use Rattle.tta_load.specs.declared.status.Status.TheVariants as status
 use Rattle.tta_own_circuits.specs.Texts.{function_of}
 
@@ -53,5 +53,5 @@ module _ (size : ℕ) (called : ℕ → List ℕ) where
     -- How the command ends: the function of the operation that the words ask for is put, or nothing is. Without a name, and where the
     -- unit hands in no circuit of an operation of the name, the words are no command.
     abbrev pub Ends : (name : Option (List ℕ)) → (old new : Output) → Status → Type 0
-    Ends None old new s = (s ≡ status.Usage) × IsQuiet old new
+    Ends None old new s = (s ≡ status.Usage) × NothingOutput old new
     Ends (Some name) old new s = TextEnds (IsFunctionOf name) (Lacks name) old new s

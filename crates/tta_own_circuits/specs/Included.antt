@@ -1,7 +1,7 @@
 -- Texts of cores with the functions of operations in the place of the lines that include their files.
 use Rattle.std.specs.Prelude.{◌≡◌, ℕ, zero, suc, ◌==◌, Bool, true, false, if◌then◌else◌, List, [], ◌∷◌, ◌++◌, codes, Option, Some, None, option_map}
 use Rattle.std.specs.Str.{bytes_eq}
-use Rattle.tta_own_circuits.specs.Cited.{Worked, IsQuiet, Output, Status, TextEnds, no_memory}
+use Rattle.tta_own_circuits.specs.Cited.{Worked, NothingOutput, Output, Status, TextEnds, no_memory}
 use Rattle.tta_load.specs.declared.status.Status.TheVariants as status
 use Rattle.tta_own_circuits.specs.Texts.{function_of}
 
@@ -43,5 +43,5 @@ module _ (called : ℕ → List ℕ) (circuit : ℕ → Option Worked) where
     -- put its text into memory for want of memory alone.
     abbrev pub EndsIncluded : (shown : Status) → (kept : Option (List ℕ)) → (old new : Output) → Status → Type 0
     EndsIncluded status.Ok (Some text) old new s = TextEnds (λ t. t ≡ with_functions [] text) no_memory old new s
-    EndsIncluded status.WriteFault kept old new s = (s ≡ status.NoMemory) × IsQuiet old new
-    EndsIncluded shown kept old new s = (s ≡ shown) × IsQuiet old new
+    EndsIncluded status.WriteFault kept old new s = (s ≡ status.NoMemory) × NothingOutput old new
+    EndsIncluded shown kept old new s = (s ≡ shown) × NothingOutput old new

@@ -2,7 +2,7 @@
 
 ghost use Rattle.std.specs.Prelude.{◌≡◌, ◌<◌, [], ◌∷◌, IfOk, IsTrue};
 ghost use Rattle.tta_arch.specs.Effects.{KeptReg, KeptImm, KeptOperand, KeptRa, Place, Written};
-ghost use Rattle.tta_sim.specs.Places.{is_place, number_of, word_at, HasWritten};
+ghost use Rattle.tta_sim.specs.Places.{is_place, number_of, place_count, word_at, HasWritten};
 
 use std::alloc::{AllocError, Global};
 use std::marker::Model;
@@ -33,7 +33,7 @@ impl Model for Row {
 
     ghost view = { λ r. r.words.items };
 
-    ghost invariant = { λ r. length r.words.items ≡ 609 };
+    ghost invariant = { λ r. length r.words.items ≡ place_count };
 }
 
 impl Row {
@@ -79,7 +79,7 @@ impl Row {
 
     /// Puts a word into the place with this number in the row.
     fn set(&mut self, number: usize, word: u32)
-        requires { number < 609 }
+        requires { number < place_count }
         ensures { (p : Place) → (written : Written) → IsTrue (is_place p) → number_of p ≡ number
             → HasWritten self.old written → HasWritten self.new ((p, word) ∷ written) }
     {

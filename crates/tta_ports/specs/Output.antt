@@ -10,7 +10,7 @@ pub record Output : Type 0 where
   pub faults : ℕ
 
 -- nothing was put, and no put has failed
-pub record IsQuiet (old new : Output) : Type 0 where
+pub record NothingOutput (old new : Output) : Type 0 where
   pub taken : new.taken ≡ old.taken
   pub faults : new.faults ≡ old.faults
 

@@ -16,7 +16,7 @@ use Rattle.tta_hardware.specs.Signals.{Asks}
 use Rattle.tta_hardware.specs.Stands.{is_halted}
 use Rattle.tta_hardware.specs.Theorem.{is_fault, is_waiting}
 use Rattle.tta_kahn.specs.declared.cores.Core.{Core}
-use Rattle.tta_kahn.specs.Network.{Network, Joined, output_of, feeder_of, after_step, turn, joined}
+use Rattle.tta_kahn.specs.Network.{Network, NetworkCore, output_of, feeder_of, after_step, turn, joined}
 use Rattle.tta_kahn.specs.Cluster.{cycles_given, cluster_given, first_states, IsRestGiven}
 use Rattle.tta_kahn.specs.Laws.{IsCore}
 use Rattle.tta_kahn.proofs.Clusters.{next_core, turn_none, turn_some}
@@ -79,10 +79,10 @@ unfolding next
 halted_stays u m code s halted = ap (next_of u m code s) halted
 
 -- cores that have made no step keep no input
-none_kept : (cs : List (Core × List ℕ)) (n : ℕ) (j : Joined State)
+none_kept : (cs : List (Core × List ℕ)) (n : ℕ) (j : NetworkCore State)
     → slice_get (joined (map (λ (c : Core × List ℕ). start c.0.machine c.1 []) cs)) n ≡ Some j → j.state.rest ≡ []
 none_kept [] n j at = absurd cc
-none_kept (c ∷ cs) zero j at = ap (λ (x : Joined State). x.state.rest) (sym (same_Some _ j at))
+none_kept (c ∷ cs) zero j at = ap (λ (x : NetworkCore State). x.state.rest) (sym (same_Some _ j at))
 none_kept (c ∷ cs) (suc n) j at = none_kept cs n j at
 
 -- what cannot go has halted, or waits, or has a word that finds no room
@@ -118,13 +118,13 @@ module _ (u : Units) (cores : List Core) (feeds : List (Option ℕ)) (given : �
   abbrev board : Board
   board = board_at u cores feeds memories k powers i t
 
-  abbrev among : List (Joined State)
+  abbrev among : List (NetworkCore State)
   among = cluster_given u cores feeds given spaces steps
 
   abbrev Among : ℕ → Core → Type 0
   Among core c = StandsAmong u cores feeds memories k board among core c
 
-  abbrev step : ℕ → Joined State → State
+  abbrev step : ℕ → NetworkCore State → State
   step core j = after_step net core (waiting_for net among core j) j
 
   fine : AreFine u cores feeds memories k came among
@@ -158,7 +158,7 @@ module _ (u : Units) (cores : List Core) (feeds : List (Option ℕ)) (given : �
     has_word : is_none (slice_get (waiting_for net among core s.now) 0) ≡ false
     has_word =
         some (waiting_for net among core s.now)
-        (sym (ap (λ (o : Option (Joined State)). nat_lt (length (option_map_or (λ j. waiting_for net among core j) o [])) (2 ^ k core)) s.there)
+        (sym (ap (λ (o : Option (NetworkCore State)). nat_lt (length (option_map_or (λ j. waiting_for net among core j) o [])) (2 ^ k core)) s.there)
         ∙ full)
 
     and_false : (b : Bool) → (b && false) ≡ false
@@ -234,7 +234,7 @@ module _ (u : Units) (cores : List Core) (feeds : List (Option ℕ)) (given : �
   halts (Fault number cycle) is = absurd (false≢true is)
 
   -- what is left for a core that has not halted has come
-  all_came : (core : ℕ) (j : Joined State) → slice_get among core ≡ Some j → is_halted j.state.outcome ≡ false
+  all_came : (core : ℕ) (j : NetworkCore State) → slice_get among core ≡ Some j → is_halted j.state.outcome ≡ false
       → waiting_for all_given among core j ≡ waiting_for net among core j
   all_came core j there runs = by (feeder_of net core) refl where
     by : (o : Option ℕ) → feeder_of net core ≡ o → waiting_for all_given among core j ≡ waiting_for net among core j
@@ -254,7 +254,7 @@ module _ (u : Units) (cores : List Core) (feeds : List (Option ℕ)) (given : �
     abbrev last_step : State
     last_step = after_step all_given core words s.now
 
-    abbrev after_of : State → Joined State
+    abbrev after_of : State → NetworkCore State
     after_of t = record { state = record t { rest = [] }; taken = s.now.taken + (length words - length t.rest) }
 
     put_same : last_step ≡ fed → after_of last_step ≡ s.now

@@ -6,7 +6,7 @@ use Rattle.std.specs.List.{AllByRecursion}
 use Rattle.tta_ops.specs.Units.{Units}
 use Rattle.tta_code.specs.Cycle.{State}
 use Rattle.tta_kahn.specs.declared.cores.Core.{Core}
-use Rattle.tta_kahn.specs.Network.{Network, Joined, output_of, feeder_of, fed_to, after_step}
+use Rattle.tta_kahn.specs.Network.{Network, NetworkCore, output_of, feeder_of, fed_to, after_step}
 use Rattle.tta_kahn.specs.Cluster.{cycles_given}
 use Rattle.tta_kahn.specs.Laws.{IsCore}
 use Rattle.tta_kahn.proofs.CoreQueues.{cores_use}
@@ -41,7 +41,7 @@ rooms_alike ready other feeder core (o ∷ feeds) alike =
         (sym (ap ready here) ∙ alike 0 f (ap (λ (x : Option ℕ). Some x) is) ∙ ap other here)
 
 module _ (u : Units) (cores : List Core) (feeds : List (Option ℕ)) (came more : ℕ → List ℕ) (k : ℕ → ℕ) (all : AllByRecursion IsCore cores)
-    (begins : HaveCome (cycles_given u cores feeds more) came) (joined : List (Joined State)) where
+    (begins : HaveCome (cycles_given u cores feeds more) came) (joined : List (NetworkCore State)) where
   abbrev so_far : Network State
   so_far = cycles_given u cores feeds came
 
@@ -81,14 +81,14 @@ module _ (u : Units) (cores : List Core) (feeds : List (Option ℕ)) (came more 
         ∙ sym (ap (has_room u cores feeds came k joined) on)
 
   -- A core does the same on what has come by now as on what has come by then.
-  pub record DoesSo (core : ℕ) (j : Joined State) : Type 0 where
+  pub record DoesSo (core : ℕ) (j : NetworkCore State) : Type 0 where
     pub waits : so_then.waits (after_step so_then core (waiting_for so_then joined core j) j)
         ≡ so_far.waits (after_step so_far core (waiting_for so_far joined core j) j)
     pub puts : puts_between u cores feeds more k j.state (after_step so_then core (waiting_for so_then joined core j) j)
         ≡ puts_between u cores feeds came k j.state (after_step so_far core (waiting_for so_far joined core j) j)
 
   -- so it is where it does not wait, or is fed the same
-  pub does_so : (core : ℕ) (j : Joined State) → j.taken ≤ length (fed_to so_far joined core)
+  pub does_so : (core : ℕ) (j : NetworkCore State) → j.taken ≤ length (fed_to so_far joined core)
       → (so_far.waits (after_step so_far core (waiting_for so_far joined core j) j) ≡ true
       → fed_to so_far joined core ≡ fed_to so_then joined core) → DoesSo core j
   does_so core j within same = by (so_far.waits now) refl where

@@ -17,7 +17,7 @@ use Rattle.tta_hardware.proofs.Circuits.{is_settled}
 use Rattle.tta_queue.specs.Queue.{InReady}
 use Rattle.tta_queue.specs.Laws.{Shows}
 use Rattle.tta_kahn.specs.declared.cores.Core.{Core}
-use Rattle.tta_kahn.specs.Network.{Network, Joined, after_step}
+use Rattle.tta_kahn.specs.Network.{Network, NetworkCore, after_step}
 use Rattle.tta_kahn.specs.Cluster.{cycles_given}
 use Rattle.tta_kahn.specs.Laws.{IsCore}
 use Rattle.tta_joint.specs.Joint.{waiting_for}
@@ -65,7 +65,7 @@ room_within ready other feeder core (o ∷ feeds) alike =
     (room_within ready other feeder (suc core) feeds (λ n less. alike n (omega (arith, less))))
 
 module _ (u : Units) (cores : List Core) (feeds : List (Option ℕ)) (memories : ℕ → List ℕ) (k : ℕ → ℕ) (came : ℕ → List ℕ) (b : Board)
-    (i : Inputs) (joined : List (Joined State)) (all : AllByRecursion IsCore cores) (count : length feeds ≡ length cores)
+    (i : Inputs) (joined : List (NetworkCore State)) (all : AllByRecursion IsCore cores) (count : length feeds ≡ length cores)
     (wired : AreWired u cores feeds memories k b i) (on : i.reset ≡ false) (stand : StandForCores u cores feeds memories k came b joined)
     (fine : AreFine u cores feeds memories k came joined) where
   abbrev net : Network State
@@ -74,7 +74,7 @@ module _ (u : Units) (cores : List Core) (feeds : List (Option ℕ)) (memories :
   abbrev Among : ℕ → Core → Type 0
   Among core c = StandsAmong u cores feeds memories k b joined core c
 
-  shows : (core : ℕ) (j : Joined State) → slice_get joined core ≡ Some j
+  shows : (core : ℕ) (j : NetworkCore State) → slice_get joined core ≡ Some j
       → Shows (k core) (pins_of u cores feeds memories k b i core) (waiting_for net joined core j)
   shows core j there = making.shows u cores feeds memories k came b i joined all wired on stand fine core j there
 
@@ -88,7 +88,7 @@ module _ (u : Units) (cores : List Core) (feeds : List (Option ℕ)) (memories :
     by (Some c) there =
         let s = stand.each n c there in
         (shows n s.now s.there).ready
-        ∙ sym (ap (λ (o : Option (Joined State)). nat_lt (length (option_map_or (λ j. waiting_for net joined n j) o [])) (2 ^ k n)) s.there)
+        ∙ sym (ap (λ (o : Option (NetworkCore State)). nat_lt (length (option_map_or (λ j. waiting_for net joined n j) o [])) (2 ^ k n)) s.there)
 
   -- ---- a core
 
@@ -200,6 +200,6 @@ module _ (u : Units) (cores : List Core) (feeds : List (Option ℕ)) (memories :
 pub board_moves : BoardMoves
 board_moves u cores feeds memories k came b i joined all count wired on stand fine core c j there among =
     let s = stand.each core c there in
-    subst (λ (j : Joined State). is_set (lines u cores feeds memories k b i core c Goes)
+    subst (λ (j : NetworkCore State). is_set (lines u cores feeds memories k b i core c Goes)
     ≡ can_go u cores feeds came k i.outside joined core j)
     (same_Some s.now j (sym s.there ∙ among)) (moves u cores feeds memories k came b i joined all count wired on stand fine core c there s)

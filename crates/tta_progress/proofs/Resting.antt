@@ -11,7 +11,7 @@ use Rattle.tta_circuit.specs.Meaning.{is_set}
 use Rattle.tta_hardware.specs.Signals.{Goes, Puts, PutWord}
 use Rattle.tta_hardware.specs.Stands.{is_halted}
 use Rattle.tta_kahn.specs.declared.cores.Core.{Core}
-use Rattle.tta_kahn.specs.Network.{Network, Joined, after_step, turn, interleaved, output_of}
+use Rattle.tta_kahn.specs.Network.{Network, NetworkCore, after_step, turn, interleaved, output_of}
 use Rattle.tta_kahn.specs.Cluster.{cycles_given, cluster_given}
 use Rattle.tta_kahn.specs.Laws.{IsCore}
 use Rattle.tta_kahn.proofs.Clusters.{turn_none}
@@ -40,7 +40,7 @@ no_more false false true false true r is less = absurd (false≢true (less refl)
 
 -- ---- no cycles
 
-no_turns : {S : Type 0} (net : Network S) (cores : List (Joined S)) (going : List ℕ)
+no_turns : {S : Type 0} (net : Network S) (cores : List (NetworkCore S)) (going : List ℕ)
     → ((core : ℕ) → is_among core going ≡ true → slice_get cores core ≡ None) → interleaved net cores going ≡ cores
 no_turns net cores [] none = refl
 no_turns net cores (g ∷ going) none =
@@ -87,7 +87,7 @@ module _ (u : Units) (cores : List Core) (feeds : List (Option ℕ)) (given : �
   abbrev came : ℕ → ℕ → List ℕ
   came n = came_by u cores feeds memories k powers i n
 
-  abbrev joined : List (Joined State)
+  abbrev joined : List (NetworkCore State)
   joined = cluster_given u cores feeds given spaces steps
 
   abbrev Run : ℕ → Type 0
@@ -103,7 +103,7 @@ module _ (u : Units) (cores : List Core) (feeds : List (Option ℕ)) (given : �
   fine n now = fine_so_far u cores feeds given memories spaces k powers i last all sized never clocks n steps now.come now.stand
 
   -- which cores can go at a clock
-  moves : (n : ℕ) → last < n → Run n → (core : ℕ) (c : Core) (j : Joined State)
+  moves : (n : ℕ) → last < n → Run n → (core : ℕ) (c : Core) (j : NetworkCore State)
       → slice_get cores core ≡ Some c → slice_get joined core ≡ Some j
       → is_set (lines u cores feeds memories k (board n) (i n) core c Goes) ≡ can_go u cores feeds (came n) k (i n).outside joined core j
   moves n past now core c j there among =
@@ -111,7 +111,7 @@ module _ (u : Units) (cores : List Core) (feeds : List (Option ℕ)) (given : �
       (fine n now) core c j there among
 
   -- what each core does on what has come by a later clock
-  so : (n : ℕ) (le : t ≤ n) (core : ℕ) (j : Joined State) → slice_get joined core ≡ Some j
+  so : (n : ℕ) (le : t ≤ n) (core : ℕ) (j : NetworkCore State) → slice_get joined core ≡ Some j
       → DoesSo u cores feeds (came t) (came n) k all (λ c o. came_grows u cores feeds memories k powers i t n c le) joined core j
   so n le core j among =
       let begins : HaveCome (cycles_given u cores feeds (came n)) (came t) = λ c o. came_grows u cores feeds memories k powers i t n c le in
@@ -145,7 +145,7 @@ module _ (u : Units) (cores : List Core) (feeds : List (Option ℕ)) (given : �
       put = λ core c there.
           ap (λ (ws : List ℕ). ws ++ (if is_set (lines u cores feeds memories k (board n) (i n) core c Puts)
           then lines u cores feeds memories k (board n) (i n) core c PutWord ∷ [] else [])) (before.0.put core c there)
-          ∙ sym (clock.puts core c there) ∙ ap (λ (cs : List (Joined State)). output_of net cs core) same;
+          ∙ sym (clock.puts core c there) ∙ ap (λ (cs : List (NetworkCore State)). output_of net cs core) same;
     }
 
     later : t ≤ suc n

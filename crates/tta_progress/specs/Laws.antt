@@ -7,7 +7,7 @@ use Rattle.tta_circuit.specs.Meaning.{is_set}
 use Rattle.tta_hardware.specs.Signals.{Goes}
 use Rattle.tta_hardware.specs.Stands.{is_halted}
 use Rattle.tta_kahn.specs.declared.cores.Core.{Core}
-use Rattle.tta_kahn.specs.Network.{Joined, feeder_of, after_step}
+use Rattle.tta_kahn.specs.Network.{NetworkCore, feeder_of, after_step}
 use Rattle.tta_kahn.specs.Cluster.{cycles_given, cluster_given, IsRestGiven}
 use Rattle.tta_kahn.specs.Laws.{IsCore}
 use Rattle.tta_joint.specs.Joint.{waiting_for}
@@ -20,9 +20,9 @@ use Rattle.tta_progress.specs.Moves.{has_room, can_go, has_word_to_put}
 abbrev pub BoardMoves : Type 0
 BoardMoves =
     (u : Units) (cores : List Core) (feeds : List (Option ℕ)) (memories : ℕ → List ℕ) (k : ℕ → ℕ) (came : ℕ → List ℕ) (b : Board)
-    (i : Inputs) (joined : List (Joined State)) → AllByRecursion IsCore cores → length feeds ≡ length cores
+    (i : Inputs) (joined : List (NetworkCore State)) → AllByRecursion IsCore cores → length feeds ≡ length cores
     → AreWired u cores feeds memories k b i → i.reset ≡ false → StandForCores u cores feeds memories k came b joined
-    → AreFine u cores feeds memories k came joined → (core : ℕ) (c : Core) (j : Joined State) → slice_get cores core ≡ Some c
+    → AreFine u cores feeds memories k came joined → (core : ℕ) (c : Core) (j : NetworkCore State) → slice_get cores core ≡ Some c
     → slice_get joined core ≡ Some j
     → is_set (lines u cores feeds memories k b i core c Goes) ≡ can_go u cores feeds came k i.outside joined core j
 
@@ -32,10 +32,10 @@ AreStill u cores feeds memories k b i =
     (core : ℕ) (c : Core) → slice_get cores core ≡ Some c → is_set (lines u cores feeds memories k b i core c Goes) ≡ false
 
 -- From a clock on no word comes from outside to a core that waits for one.
-abbrev pub NoneComes : Units → List Core → (feeds : List (Option ℕ)) → (came : ℕ → ℕ → List ℕ) → (t : ℕ) → List (Joined State) → Type 0
+abbrev pub NoneComes : Units → List Core → (feeds : List (Option ℕ)) → (came : ℕ → ℕ → List ℕ) → (t : ℕ) → List (NetworkCore State) → Type 0
 NoneComes u cores feeds came t joined =
     let net = cycles_given u cores feeds (came t) in
-    (later core : ℕ) (j : Joined State) → t ≤ later → feeder_of net core ≡ None → slice_get joined core ≡ Some j
+    (later core : ℕ) (j : NetworkCore State) → t ≤ later → feeder_of net core ≡ None → slice_get joined core ≡ Some j
     → net.waits (after_step net core (waiting_for net joined core j) j) ≡ true → came later core ≡ came t core
 
 -- Where no core makes a cycle at a clock, the outside takes no word at a later one that it would not take at this, and none comes from it
@@ -64,22 +64,22 @@ pub record AreUpwards (feeds : List (Option ℕ)) : Type 0 where
       → (height feeder < height core) × (height core ≤ most)
 
 -- where a core has halted, the queue before it has room
-abbrev pub HaltedHaveRoom : Units → List Core → (feeds : List (Option ℕ)) → (came : ℕ → List ℕ) → (k : ℕ → ℕ) → List (Joined State) → Type 0
+abbrev pub HaltedHaveRoom : Units → List Core → (feeds : List (Option ℕ)) → (came : ℕ → List ℕ) → (k : ℕ → ℕ) → List (NetworkCore State) → Type 0
 HaltedHaveRoom u cores feeds came k joined =
-    (core : ℕ) (j : Joined State) → slice_get joined core ≡ Some j → is_halted j.state.outcome ≡ true
+    (core : ℕ) (j : NetworkCore State) → slice_get joined core ≡ Some j → is_halted j.state.outcome ≡ true
     → has_room u cores feeds came k joined core ≡ true
 
 -- the outside takes the words of each core that has one to put out
 abbrev pub OutsideTakes : Units → List Core → (feeds : List (Option ℕ)) → (came : ℕ → List ℕ) → (k : ℕ → ℕ) → (outside : ℕ → Bool)
-    → List (Joined State) → Type 0
+    → List (NetworkCore State) → Type 0
 OutsideTakes u cores feeds came k outside joined =
-    (core : ℕ) (j : Joined State) → slice_get joined core ≡ Some j → has_word_to_put u cores feeds came k joined core j ≡ true
+    (core : ℕ) (j : NetworkCore State) → slice_get joined core ≡ Some j → has_word_to_put u cores feeds came k joined core j ≡ true
     → outside core ≡ true
 
 -- all that a core is given from outside has come, where the core has not halted
-abbrev pub AllHasCome : Units → List Core → (feeds : List (Option ℕ)) → (given came : ℕ → List ℕ) → List (Joined State) → Type 0
+abbrev pub AllHasCome : Units → List Core → (feeds : List (Option ℕ)) → (given came : ℕ → List ℕ) → List (NetworkCore State) → Type 0
 AllHasCome u cores feeds given came joined =
-    (core : ℕ) (j : Joined State) → feeder_of (cycles_given u cores feeds given) core ≡ None → slice_get joined core ≡ Some j
+    (core : ℕ) (j : NetworkCore State) → feeder_of (cycles_given u cores feeds given) core ≡ None → slice_get joined core ≡ Some j
     → is_halted j.state.outcome ≡ false → came core ≡ given core
 
 -- Where links lead upwards, the outside takes all words, and all that cores are given from outside has come, joined circuits come to a

@@ -13,7 +13,7 @@ pub use Rattle.tta_stdin.specs.Come.{Come, Comes, IfLine, IsFailed, with_end, wi
 pub use Rattle.tta_stdin.specs.declared.error.LineError.{LineError}
 pub use Rattle.tta_ops.specs.Set.{stated}
 pub use Rattle.tta_ops.specs.Units.{Units}
-pub use Rattle.tta_ports.specs.Output.{IsCut, IsPut, IsQuiet, Output}
+pub use Rattle.tta_ports.specs.Output.{IsCut, IsPut, NothingOutput, Output}
 pub use Rattle.tta_ports.specs.declared.error.Failed.{Failed}
 pub use Rattle.tta_report.specs.Replies.{reply_text}
 pub use Rattle.tta_parse.specs.Lines.{Lexeme, Line}

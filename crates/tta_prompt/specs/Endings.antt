@@ -1,7 +1,7 @@
 -- How a session at a prompt ends.
 use Rattle.std.specs.Prelude.{◌≡◌, ◌⊎◌, ℕ, ◌+◌, ◌-◌, ◌^◌, Bool, true, false, Option, Some, None, List, [], ◌∷◌, ◌++◌, length, Result, Ok, Err}
 use Rattle.std.specs.List.{sum_by}
-use Rattle.tta_prompt.specs.Cited.{Output, IsPut, IsCut, IsQuiet, Failed, reply_text, Come, with_lines, with_end, with_overlong, IsFailed, Units, Machine, not_there, Debugged, Done, Session', Follows, IsStopped, PutsLine, line_text, line_says, line_goes, line_leaves}
+use Rattle.tta_prompt.specs.Cited.{Output, IsPut, IsCut, NothingOutput, Failed, reply_text, Come, with_lines, with_end, with_overlong, IsFailed, Units, Machine, not_there, Debugged, Done, Session', Follows, IsStopped, PutsLine, line_text, line_says, line_goes, line_leaves}
 use Rattle.tta_report.specs.declared.reply.Reply.TheVariants as reply
 use Rattle.tta_code.specs.declared.code.Code.{Code}
 use Rattle.tta_prompt.specs.declared.error.PromptError.{PromptError}
@@ -15,7 +15,7 @@ abbrev pub AnswersLine : (input : List ℕ) → Debugged → Result Done ℕ →
 AnswersLine input d done h old new (Ok goes) =
     (goes ≡ line_goes done) × Follows input h (line_leaves d done) × IsPut (line_text done) old new
 AnswersLine input d done h old new (Err SinkFailed) = IsCut (line_text done) old new × IsStopped input (line_says d done) h old new
-AnswersLine input d done h old new (Err NoMemory) = Follows input h d × IsQuiet old new
+AnswersLine input d done h old new (Err NoMemory) = Follows input h d × NothingOutput old new
 AnswersLine input d done h old new (Err LinesFailed) = ⊥
 AnswersLine input d done h old new (Err TooLong) = ⊥
 
@@ -63,7 +63,7 @@ CutsOff input h new now done mid = IsCut (line_text done) mid new × IsStopped i
 
 -- a line was not answered
 abbrev pub Leaves : (input : List ℕ) → Session' → (new : Output) → Debugged → Result Done ℕ → Output → Type 0
-Leaves input h new now done mid = Follows input h now × IsQuiet mid new
+Leaves input h new now done mid = Follows input h now × NothingOutput mid new
 
 -- all lines that have come were answered, and then something has come instead of a line
 pub record IsLeft (u : Units) (m : Machine) (code : Code) (input : List ℕ) (d : Debugged) (h : Session') (before : Come) (old new : Output)

@@ -16,7 +16,7 @@ use crate::rows::{Found, Table, same_found};
 use crate::slots::{part_at, parts_of};
 use std::alloc::{AllocError, Global};
 use tta_arch::{Machine, Op};
-use tta_connect::Joined;
+use tta_connect::TargetMachine;
 use tta_moves::{BlockList, Item, is_list};
 use tta_optim::with_items;
 
@@ -199,7 +199,7 @@ impl Checker {
         &mut self,
         alloc: Global,
         b: &BlockList,
-        on: &Joined<'_>,
+        on: &TargetMachine<'_>,
         numbers: &[usize],
     ) -> Result<Option<BlockList>, AllocError>
         requires list { is_list on.now.machine.now b.now.items ≡ true }

@@ -9,7 +9,7 @@ use crate::choice::{Rule, chosen};
 use crate::marks::StampedMap;
 use std::alloc::{AllocError, Global};
 use tta_arch::Machine;
-use tta_connect::Joined;
+use tta_connect::TargetMachine;
 use tta_moves::{BlockList, Item};
 
 /// The items from a number on. The only error is out of memory.
@@ -79,7 +79,7 @@ impl Orders {
         &mut self,
         alloc: Global,
         b: &BlockList,
-        on: &Joined<'_>,
+        on: &TargetMachine<'_>,
         rule: Rule,
     ) -> Result<Option<BlockList>, AllocError>
         requires list { is_list on.now.machine.now b.now.items ≡ true }

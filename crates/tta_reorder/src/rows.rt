@@ -150,7 +150,8 @@ impl Table {
 
     /// What a control item with a guard finds of how the list goes on.
     fn ending(&self, x: Item) -> usize
-        ensures { result ≡ entry self.now (if_so (is_control x && not (is_unguarded x)) ending_number) }
+        ensures { result ≡ entry self.now
+            (if_so (is_control x && not (is_unguarded x)) ending_number) }
     {
         let asks = is_control(x) && !is_unguarded(x);
         self.entry(if_so(asks, ENDING))

@@ -16,7 +16,8 @@ use tta_ports::{Failed, Sink};
 fn put_words<S: Sink>(sink: &mut S, words: &[u32]) -> Result<(), Failed>
     ensures grows { PutsBytes (lines_text (word_lines words.now))
         (S.output sink.old).taken (S.output sink.new).taken result }
-    ensures cause { CountsFault (is_err result) (S.output sink.old).faults (S.output sink.new).faults }
+    ensures cause { CountsFault (is_err result) (S.output sink.old).faults
+        (S.output sink.new).faults }
 {
     'words: for word in words {
         put_line(sink, &Line::Word(*word))?;
@@ -32,7 +33,8 @@ fn put_words<S: Sink>(sink: &mut S, words: &[u32]) -> Result<(), Failed>
 pub fn put_core<S: Sink>(sink: &mut S, core: u8, words: &[u32], last: &Line) -> Result<(), Failed>
     ensures grows { PutsBytes (lines_text (core_lines core words.now last.now))
         (S.output sink.old).taken (S.output sink.new).taken result }
-    ensures cause { CountsFault (is_err result) (S.output sink.old).faults (S.output sink.new).faults }
+    ensures cause { CountsFault (is_err result) (S.output sink.old).faults
+        (S.output sink.new).faults }
 {
     put_line(sink, &Line::Core(core))?;
     put_words(sink, words)?;

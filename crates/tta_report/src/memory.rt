@@ -13,7 +13,8 @@ use tta_ports::{Failed, Sink};
 fn put_word<S: Sink>(sink: &mut S, address: u32, word: u32) -> Result<(), Failed>
     ensures grows { PutsBytes (lines_text (memory_lines address (word ∷ [])))
         (S.output sink.old).taken (S.output sink.new).taken result }
-    ensures cause { CountsFault (is_err result) (S.output sink.old).faults (S.output sink.new).faults }
+    ensures cause { CountsFault (is_err result) (S.output sink.old).faults
+        (S.output sink.new).faults }
 {
     if word == 0 {
         return Ok(());
@@ -29,7 +30,8 @@ pub fn put_memory<S: Sink>(sink: &mut S, words: &[u32]) -> Result<(), Failed>
     requires { length words.now < 2 ^ 32 }
     ensures grows { PutsBytes (lines_text (memory_lines 0 words.now))
         (S.output sink.old).taken (S.output sink.new).taken result }
-    ensures cause { CountsFault (is_err result) (S.output sink.old).faults (S.output sink.new).faults }
+    ensures cause { CountsFault (is_err result) (S.output sink.old).faults
+        (S.output sink.new).faults }
 {
     let mut address = 0u32;
     'words: for word in words {

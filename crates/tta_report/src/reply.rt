@@ -108,8 +108,10 @@ fn text_of_reply(reply: &Reply) -> ArrayString<ROOM>
 ///
 /// It answers `Failed` where the sink does, which has then taken a prefix of the line.
 pub fn put_reply<S: Sink>(sink: &mut S, reply: &Reply) -> Result<(), Failed>
-    ensures grows { PutsBytes (reply_text reply.now) (S.output sink.old).taken (S.output sink.new).taken result }
-    ensures cause { CountsFault (is_err result) (S.output sink.old).faults (S.output sink.new).faults }
+    ensures grows { PutsBytes (reply_text reply.now) (S.output sink.old).taken
+        (S.output sink.new).taken result }
+    ensures cause { CountsFault (is_err result) (S.output sink.old).faults
+        (S.output sink.new).faults }
 {
     let text = text_of_reply(reply);
     sink.put(text.as_bytes())
@@ -137,7 +139,8 @@ pub fn put_due<S: Sink>(sink: &mut S, unit: &[u8], cycle: u64, value: u32) -> Re
     requires { length unit.now ≤ 64 }
     ensures grows { PutsBytes (due_text unit.now cycle value)
         (S.output sink.old).taken (S.output sink.new).taken result }
-    ensures cause { CountsFault (is_err result) (S.output sink.old).faults (S.output sink.new).faults }
+    ensures cause { CountsFault (is_err result) (S.output sink.old).faults
+        (S.output sink.new).faults }
 {
     let end = due_end(cycle, value);
     let mut line: ArrayVec<u8, 128> = ArrayVec::new();

@@ -24,7 +24,8 @@ pub fn put_report<S: Sink>(
     requires { length words.now < 2 ^ 32 }
     ensures grows { PutsBytes (lines_text (report_lines outcome.now words.now count.now))
         (S.output sink.old).taken (S.output sink.new).taken result }
-    ensures cause { CountsFault (is_err result) (S.output sink.old).faults (S.output sink.new).faults }
+    ensures cause { CountsFault (is_err result) (S.output sink.old).faults
+        (S.output sink.new).faults }
 {
     put_line(sink, outcome)?;
     put_memory(sink, words)?;

@@ -12,7 +12,7 @@ pub trait Run {
     ghost use Rattle.tta_list.specs.Iterate.{iterate};
     ghost use Rattle.tta_ops.specs.Set.{stated};
     ghost use Rattle.tta_ops.specs.Units.{Units};
-    ghost use Rattle.tta_run.specs.Meaning.{Meaning, Leaves, IsQuiet, OutputGrows, WaitStays};
+    ghost use Rattle.tta_run.specs.Meaning.{Meaning, Leaves, IsSilentRun, OutputGrows, WaitStays};
     ghost use Rattle.tta_run.specs.Reports.{Reports, WaitReports};
 
     /// The states that the meaning of the run is about.
@@ -56,16 +56,16 @@ pub trait Run {
 
     /// Makes at most so many moves, and answers how many it made, which may be none. These moves
     /// output nothing and take no word of the input. It takes no memory.
-    fn go_on(&mut self, units: &UnitSet, most: u64) -> u64
+    fn run_silent(&mut self, units: &UnitSet, most: u64) -> u64
         requires loaded { loaded self.old }
         requires few { moves self.old + most < 2 ^ 62 }
         ensures loaded { loaded self.new }
         ensures course { course self.new ≡ course self.old }
         ensures within { result ≤ most }
         ensures counted { moves self.new ≤ moves self.old + result }
-        ensures quiet { let m = meaning (stated unit_meaning units.now) (course self.old) in
+        ensures silent { let m = meaning (stated unit_meaning units.now) (course self.old) in
             (s : State) → stands self.old s
-            → IsQuiet m (stands self.new) s (iterate result m.next s) };
+            → IsSilentRun m (stands self.new) s (iterate result m.next s) };
 
     /// How the run stands, where it does not wait.
     fn ended(&self) -> Ended

@@ -7,7 +7,7 @@ ghost use Rattle.tta_moves.specs.Slots.{carries, fills, has_slot};
 ghost use Rattle.tta_sched.specs.Serial.{IsLeastAlone};
 
 use tta_arch::Template;
-use tta_connect::Joined;
+use tta_connect::TargetMachine;
 use tta_moves::{Item, Slot, carried};
 
 /// Whether a template writes an immediate register.
@@ -34,7 +34,7 @@ fn first_template(templates: &[Template], imm: u8, reg: u8) -> u8
 }
 
 /// The least slot that carries an item that is alone in its cycle.
-pub fn slot_alone(on: &Joined<'_>, x: Item) -> Slot
+pub fn slot_alone(on: &TargetMachine<'_>, x: Item) -> Slot
     requires slot { has_slot on.now.machine.now x ≡ true }
     ensures carried { carries on.now.machine.now result x ≡ true }
     ensures least { IsLeastAlone on.now.machine.now x result }

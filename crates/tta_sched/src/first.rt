@@ -12,7 +12,7 @@ ghost use Rattle.tta_sched.specs.First.{Asks, FindsFirst};
 
 use std::alloc::{AllocError, Global};
 use tta_arch::Machine;
-use tta_connect::{Joined, Net};
+use tta_connect::{Net, TargetMachine};
 use tta_depend::Bounds;
 use tta_list::Items;
 use tta_moves::{BlockList, Item, Placed, PlacedItem};
@@ -22,7 +22,7 @@ use tta_reserve::Table;
 /// is None exactly where it fits in none of them.
 fn first_from(
     table: &Table,
-    on: &Joined<'_>,
+    on: &TargetMachine<'_>,
     item: &Item,
     from: u32,
     end: u32,
@@ -75,7 +75,7 @@ impl Placer {
         &mut self,
         placed: &mut Items<PlacedItem>,
         item: &Item,
-        on: &Joined<'_>,
+        on: &TargetMachine<'_>,
     ) -> Result<(), AllocError>
         requires rules { IsMachine on.now.machine.now }
         requires slot { has_slot on.now.machine.now item.now ≡ true }
@@ -109,7 +109,7 @@ impl Placer {
         &mut self,
         alloc: Global,
         b: &BlockList,
-        on: &Joined<'_>,
+        on: &TargetMachine<'_>,
     ) -> Result<Placed, AllocError>
         requires list { is_list on.now.machine.now b.now.items ≡ true }
         ensures first { IfOk result (λ p. IsFirstFit on.now.machine.now b.now.items p) }
@@ -146,7 +146,7 @@ pub fn place_block(
     ensures respects { IfOk result (λ p. Respects m.now b.now.items p) }
     ensures room { IfOk result (λ p. HasRoom m.now b.now.items p) }
 {
-    let on = Joined { machine: m, net };
+    let on = TargetMachine { machine: m, net };
     let mut placer = Placer::new(alloc, m)?;
     let placed = placer.place(alloc, b, &on)?;
     Ok(placed)

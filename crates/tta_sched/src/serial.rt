@@ -11,7 +11,7 @@ ghost use Rattle.tta_sched.specs.Room.{HasRoom};
 use crate::alone::slot_alone;
 use std::alloc::{AllocError, Global};
 use tta_arch::Machine;
-use tta_connect::{Joined, Net};
+use tta_connect::{Net, TargetMachine};
 use tta_depend::lasts;
 use tta_list::Items;
 use tta_moves::parts::is_control;
@@ -44,7 +44,7 @@ pub fn place_serial(
     ensures respects { IfOk result (λ p. Respects m.now b.now.items p) }
     ensures room { IfOk result (λ p. HasRoom m.now b.now.items p) }
 {
-    let on = Joined { machine: m, net };
+    let on = TargetMachine { machine: m, net };
     let mut placed = Items::new(alloc);
     let mut cycle = 0;
     for x in b.items.as_slice() {

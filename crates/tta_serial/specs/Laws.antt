@@ -17,8 +17,8 @@ use Rattle.tta_flow.specs.declared.live.Live.{Live}
 use Rattle.tta_flow.specs.Blocks.{IsFlow}
 use Rattle.tta_flow.specs.Live.{IsLive}
 use Rattle.tta_alloc.specs.declared.homes.Homes.{Homes}
-use Rattle.tta_alloc.specs.Allotted.{AreAllotted}
-use Rattle.tta_lower.specs.Liveness.{Known}
+use Rattle.tta_alloc.specs.Allotted.{SlotsAsScanned}
+use Rattle.tta_lower.specs.Liveness.{LoweringInput}
 use Rattle.tta_lower.specs.Law.{IsKnown}
 use Rattle.tta_sched.specs.Serial.{IsSerial}
 use Rattle.tta_link.specs.Linked.{IsLinked}
@@ -42,7 +42,7 @@ pub record AreSerial (m : Machine) (lists : List BlockList) (ps : List Placed) :
 -- a cycle: the linker takes such placements, and the code that it makes of them agrees with the program.
 abbrev pub SerialAgrees : Type 0
 SerialAgrees =
-    (u : Units) (m : Machine) (c : Choice) (p : Program) (known : Known) (lists : List BlockList) (ps : List Placed)
+    (u : Units) (m : Machine) (c : Choice) (p : Program) (known : LoweringInput) (lists : List BlockList) (ps : List Placed)
     → IsPair u m c p → IsKnown p (length c.homes) known → AreStandIns m (raw u m c p known) lists → AreSerial m lists ps
     → DoesLinked u m p ps
 
@@ -50,5 +50,5 @@ SerialAgrees =
 abbrev pub SerialDirectAgrees : Type 0
 SerialDirectAgrees =
     (u : Units) (m : Machine) (p : Program) → IsMachine m → IsProgram p → is_direct m p ≡ true
-    → (blocks : List Block) (l : Live) (h : Homes) → IsFlow p blocks → IsLive p l → AreAllotted p 0 h
+    → (blocks : List Block) (l : Live) (h : Homes) → IsFlow p blocks → IsLive p l → SlotsAsScanned p 0 h
     → (ps : List Placed) → AreSerial m (list_of_direct m p ∷ []) ps → DoesLinked u m p ps

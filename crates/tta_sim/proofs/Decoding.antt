@@ -37,7 +37,7 @@ moves_noted m back slots = record {
   writes = of_slots (write_decoded m back) slots;
   starts = of_slots (start_decoded m) slots;
   controls = of_slots control_decoded slots;
-  quiet = true;
+  pure = true;
 }
 
 pub moves-more : (m : Machine) (back : ℕ) (slots : List (Option Move)) (i : ℕ) (d : Option Move) (old new : Line) → i < length slots

@@ -137,7 +137,7 @@ line_there m rules back i legal =
       few_writes =
           omega (arith, fits.few, count, length-filter_map (write_decoded m back) ms, length-append writes (option_to_list (long_decoded m i.long)), length-option (long_decoded m i.long));
       few_starts = omega (arith, fits.few, count, length-filter_map (start_decoded m) ms);
-      quiet = refl;
+      pure = refl;
       writes =
           all_append (is_write_there units) writes (option_to_list (long_decoded m i.long))
           (all_filter_map (is_write_there units) (write_decoded m back) ms

@@ -77,9 +77,9 @@ left_few units store r l buffers ts there left same =
     let brought = start_brought store.places (shown_by r) (operand_in store.places (writes_in store r l)) in
     omega (arith, ap length (same ∙ left.starts), length-filter_map brought l.starts, there.few_starts)
 
--- ---- quiet lines
+-- ---- pure lines
 
--- what a quiet line leaves, with its operations
+-- what a pure line leaves, with its operations
 abbrev pub with_starts : Store → Results → Line → CycleBuffers → CycleBuffers
 with_starts store r l buffers = record buffers { starts = starts_in store r (writes_in store r l) l.starts }
 

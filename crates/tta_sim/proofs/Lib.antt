@@ -5,7 +5,7 @@ pub mod Beginning
 pub mod Lining
 pub mod Lists
 pub mod Possible
-pub mod Quiet
+pub mod Pure
 pub mod Rows
 pub mod Showing
 pub mod Shown

@@ -19,11 +19,11 @@ pub nothing_in : {A : Type 0} (xs : List A) → is_nil xs ≡ true → xs ≡ []
 nothing_in [] none = refl
 nothing_in (x ∷ xs) none = grind (arith, none)
 
--- a quiet line has no loud starts, and no control moves
-pub quiet_parts : (q a b : Bool) → q ≡ (a && b) → q ≡ true → (a ≡ true) × (b ≡ true)
-quiet_parts q true true is quiet = (refl, refl)
-quiet_parts q true false is quiet = cc
-quiet_parts q false b is quiet = cc
+-- a pure line has no loud starts, and no control moves
+pub pure_parts : (q a b : Bool) → q ≡ (a && b) → q ≡ true → (a ≡ true) × (b ≡ true)
+pure_parts q true true is pure = (refl, refl)
+pure_parts q true false is pure = cc
+pure_parts q false b is pure = cc
 
 -- operations that can start have no result that would be due at the time of another
 free_in : (places : List (Option ℕ)) (r : Results) (operand : ℕ → Option ℕ) (moves : List DecodedStart) → list_any (cannot_start places r operand) moves ≡ false

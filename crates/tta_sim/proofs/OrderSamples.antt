@@ -27,7 +27,7 @@ abbrev starts : Reading → (unit : ℕ) → Op → (latency : ℕ) → DecodedS
 starts r unit op latency = record { reading = r; unit = unit; does = record { op = op; latency = latency; arity = 1 } }
 
 abbrev line : List DecodedWrite → List DecodedStart → List DecodedControl → Line
-line ws ss ts = record { writes = ws; starts = ss; controls = ts; quiet = false }
+line ws ss ts = record { writes = ws; starts = ss; controls = ts; pure = false }
 
 -- ---- order
 

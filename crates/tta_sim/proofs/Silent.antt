@@ -9,7 +9,7 @@ use Rattle.tta_sim.specs.declared.cycle_step.CycleStep.{CycleStep}
 use Rattle.tta_sim.specs.declared.decoded.Line.{Line}
 use Rattle.tta_sim.specs.declared.cycle_step.CycleStep.TheVariants.{Ran, Halted as HadHalted, Waiting as Waits, Fault as Faults}
 use Rattle.tta_sim.specs.Results.{Results}
-use Rattle.tta_sim.specs.Held.{HeldState, StandsWith, GoesWith, IsAnswer, IsQuiet, is_fault, cycles_of}
+use Rattle.tta_sim.specs.Held.{HeldState, StandsWith, GoesWith, IsAnswer, IsSilentRun, is_fault, cycles_of}
 use Rattle.tta_sim.specs.Kept.{is_silent}
 
 -- A state has the output and the input of another.
@@ -35,33 +35,33 @@ waited_well : (s t : State) (must : Bool) → is_fault t.outcome ≡ false → i
 waited_well s t false well = well
 waited_well s t true well = refl
 
-quiet_fault : (s t : State) (o : Option ℕ) → is_fault t.outcome ≡ false → is_fault (or_fault s o t).outcome ≡ true → IsSilent s (or_fault s o t)
-quiet_fault s t None well faulty = absurd (true≢false (sym faulty ∙ well))
-quiet_fault s t (Some number) well faulty = record { output = refl; rest = refl }
+pure_fault : (s t : State) (o : Option ℕ) → is_fault t.outcome ≡ false → is_fault (or_fault s o t).outcome ≡ true → IsSilent s (or_fault s o t)
+pure_fault s t None well faulty = absurd (true≢false (sym faulty ∙ well))
+pure_fault s t (Some number) well faulty = record { output = refl; rest = refl }
 
-quiet : (u : Units) (m : Machine) (s : State) (o : Option Instruction)
+pure : (u : Units) (m : Machine) (s : State) (o : Option Instruction)
     → is_fault (carry_out u m s o).outcome ≡ true → IsSilent s (carry_out u m s o)
-quiet u m s None faulty = record { output = refl; rest = refl }
-quiet u m s (Some i) faulty =
+pure u m s None faulty = record { output = refl; rest = refl }
+pure u m s (Some i) faulty =
     let effects = effects_of m i in
     let bs = filter_map (bring (read_source s)) effects in
     let written = filter_map (write_of m (s.pc + 1 + m.control.delay)) bs ++ s.written in
     let ts = filter_map (start_of m written) bs in
-    quiet_fault s (or_wait s (waits s ts) (acts u m s bs ts written)) (fault_of s effects bs ts)
+    pure_fault s (or_wait s (waits s ts) (acts u m s bs ts written)) (fault_of s effects bs ts)
     (waited_well s (acts u m s bs ts written) (waits s ts) (landed_well _ (pending_after m s (first_some control_of bs)) refl)) faulty
 
 -- a cycle that comes to a fault outputs no word, and takes none
-pub fault_is_quiet : (u : Units) (m : Machine) (code : Code) (s : State) (number at : ℕ)
+pub fault_is_silent : (u : Units) (m : Machine) (code : Code) (s : State) (number at : ℕ)
     → (next u m code s).outcome ≡ Fault number at → IsSilent s (next u m code s)
 unfolding next
-fault_is_quiet u m code s number at is = of s s.outcome (ap is_fault is) where
+fault_is_silent u m code s number at is = of s s.outcome (ap is_fault is) where
   of : (s : State) (o : Outcome) → is_fault (next_of u m code s o).outcome ≡ true → IsSilent s (next_of u m code s o)
-  of s Running faulty = quiet u m s (slice_get code.words s.pc) faulty
+  of s Running faulty = pure u m s (slice_get code.words s.pc) faulty
   of s Halted faulty = record { output = refl; rest = refl }
   of s Waiting faulty = record { output = refl; rest = refl }
   of s (Fault n c) faulty = record { output = refl; rest = refl }
 
--- ---- quiet runs
+-- ---- pure runs
 
 -- an answer without a word tells of a cycle that neither outputs nor takes one
 pub silent_answer : (u : Units) (m : Machine) (code : Code) (s : State) (answer : CycleStep) → is_silent answer ≡ true → IsAnswer u m code s answer
@@ -71,11 +71,11 @@ silent_answer u m code s (Ran None true) is at = cc
 silent_answer u m code s (Ran (Some word) took) is at = cc
 silent_answer u m code s HadHalted is at = cc
 silent_answer u m code s Waits is at = cc
-silent_answer u m code s (Faults number) is at = fault_is_quiet u m code s number s.cycle at
+silent_answer u m code s (Faults number) is at = fault_is_silent u m code s number s.cycle at
 
--- so it is one of a quiet run
+-- so it is one of a pure run
 pub silent_cycle : (u : Units) (m : Machine) (code : Code) (r : Results) (h : HeldState) (s : State) (answer : CycleStep) → is_silent answer ≡ true
-    → GoesWith r h s (next u m code s) answer → IsAnswer u m code s answer → IsQuiet (StandsWith r h) s (next u m code s)
+    → GoesWith r h s (next u m code s) answer → IsAnswer u m code s answer → IsSilentRun (StandsWith r h) s (next u m code s)
 silent_cycle u m code r h s answer is goes at =
     let same = silent_answer u m code s answer is at in
     record { stands = stands answer is goes; output = same.output; rest = same.rest }
@@ -86,14 +86,14 @@ silent_cycle u m code r h s answer is goes at =
     stands Waits is goes = cc
     stands (Faults number) is goes = goes
 
--- where a line is not quiet, and where there is none, a run does not go on quietly
-pub no_quiet_line : (lines : List Line) (k : ℕ) (l : Line) → k < length lines → l ≡ get_or lines k l → l.quiet ≡ false
-    → option_map_or (λ l. l.quiet) (slice_get lines k) false ≡ false
-no_quiet_line [] k l within at is = absurd (omega (arith, within))
-no_quiet_line (x ∷ lines) zero l within at is = ap (λ l. l.quiet) (sym at) ∙ is
-no_quiet_line (x ∷ lines) (suc k) l within at is = no_quiet_line lines k l (omega (arith, within)) at is
+-- where a line is not pure, and where there is none, a run does not go on in one call
+pub no_pure_line : (lines : List Line) (k : ℕ) (l : Line) → k < length lines → l ≡ get_or lines k l → l.pure ≡ false
+    → option_map_or (λ l. l.pure) (slice_get lines k) false ≡ false
+no_pure_line [] k l within at is = absurd (omega (arith, within))
+no_pure_line (x ∷ lines) zero l within at is = ap (λ l. l.pure) (sym at) ∙ is
+no_pure_line (x ∷ lines) (suc k) l within at is = no_pure_line lines k l (omega (arith, within)) at is
 
-pub no_line : (lines : List Line) (k : ℕ) → length lines ≤ k → option_map_or (λ l. l.quiet) (slice_get lines k) false ≡ false
+pub no_line : (lines : List Line) (k : ℕ) → length lines ≤ k → option_map_or (λ l. l.pure) (slice_get lines k) false ≡ false
 no_line [] k past = refl
 no_line (x ∷ lines) zero past = absurd (omega (arith, past))
 no_line (x ∷ lines) (suc k) past = no_line lines k (omega (arith, past))
@@ -106,7 +106,7 @@ at_most_one Waits = omega arith
 at_most_one (Faults number) = omega arith
 
 -- one more cycle
-pub quiet_more : (Before After : State → Type 0) (s t : State) (u : State) → IsQuiet Before s t → (Before t → IsQuiet After t u) → IsQuiet After s u
-quiet_more Before After s t u first more =
+pub pure_more : (Before After : State → Type 0) (s t : State) (u : State) → IsSilentRun Before s t → (Before t → IsSilentRun After t u) → IsSilentRun After s u
+pure_more Before After s t u first more =
     let last = more first.stands in
     record { stands = last.stands; output = last.output ∙ first.output; rest = last.rest ∙ first.rest }

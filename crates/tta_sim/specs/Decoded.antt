@@ -97,8 +97,8 @@ abbrev pub is_loud_start : DecodedStart → Bool
 is_loud_start s = is_loud_op s.does.op
 
 -- whether there are no such moves, and no control moves
-abbrev pub is_quiet : List DecodedStart → List DecodedControl → Bool
-is_quiet starts controls = not (list_any is_loud_start starts) && is_nil controls
+abbrev pub is_pure : List DecodedStart → List DecodedControl → Bool
+is_pure starts controls = not (list_any is_loud_start starts) && is_nil controls
 
 -- an instruction, where a call in it comes back to this address
 abbrev pub line_of : Machine → (back : ℕ) → Instruction → Line
@@ -106,7 +106,7 @@ line_of m back i = record {
   writes = filter_map (write_decoded m back) (moves_of i) ++ option_to_list (long_decoded m i.long);
   starts = filter_map (start_decoded m) (moves_of i);
   controls = filter_map control_decoded (moves_of i);
-  quiet = is_quiet (filter_map (start_decoded m) (moves_of i)) (filter_map control_decoded (moves_of i));
+  pure = is_pure (filter_map (start_decoded m) (moves_of i)) (filter_map control_decoded (moves_of i));
 }
 
 -- an instruction to which what one more move does is added

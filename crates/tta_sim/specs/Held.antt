@@ -107,16 +107,16 @@ abbrev pub GoesTo : Held → (s next : State) → CycleStep → Type 0
 GoesTo h s next Waits = Stands h s
 GoesTo h s next answer = Stands h next
 
--- A run went from a state to another and was quiet: it stands for that one, output nothing, and took no word.
-pub record IsQuiet (Stands : State → Type 0) (s t : State) : Type 0 where
+-- A run went from a state to another and was pure: it stands for that one, output nothing, and took no word.
+pub record IsSilentRun (Stands : State → Type 0) (s t : State) : Type 0 where
   pub stands : Stands t
   pub output : t.output ≡ s.output
   pub rest : t.rest ≡ s.rest
 
--- whether a run goes on with an instruction whose line is quiet
-abbrev pub goes_quietly : List Line → (pc : ℕ) → Outcome → Bool
-goes_quietly lines pc Running = option_map_or (λ l. l.quiet) (slice_get lines pc) false
-goes_quietly lines pc o = false
+-- whether a run goes on with an instruction whose line is pure
+abbrev pub goes_pure : List Line → (pc : ℕ) → Outcome → Bool
+goes_pure lines pc Running = option_map_or (λ l. l.pure) (slice_get lines pc) false
+goes_pure lines pc o = false
 
 -- The answer of a cycle from a state: Halted where the state has halted; the fault that the next state is at, now or since
 -- earlier; Waiting where the cycle makes it wait; and else the word that the cycle outputs, if any, and whether it takes a

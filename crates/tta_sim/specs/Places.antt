@@ -11,13 +11,17 @@ is_place (KeptOperand unit) = nat_lt unit 32
 is_place KeptRa = true
 is_place (KeptPort unit) = false
 
+-- how many places there are in a row
+abbrev pub place_count : ℕ
+place_count = 609
+
 -- the places in a row: the registers file by file, then the immediate registers, the operand ports and the return address
 abbrev pub number_of : Place → ℕ
 number_of (KeptReg file index) = file * 64 + index
 number_of (KeptImm unit index) = 512 + unit * 16 + index
 number_of (KeptOperand unit) = 576 + unit
 number_of KeptRa = 608
-number_of (KeptPort unit) = 609
+number_of (KeptPort unit) = place_count
 
 -- the word of a place, if one was ever written
 abbrev pub word_at : List (Option ℕ) → Place → Option ℕ

@@ -35,7 +35,7 @@ pub record AreLeft (store : Store) (r : Results) (l : Line) (buffers : CycleBuff
   pub starts : buffers.starts ≡ starts_in store r (writes_in store r l) l.starts
   pub free : list_any (clashes_with r) buffers.starts ≡ false
 
--- What is left of a quiet line: the words to write, and the results that its operations show, none of which would be due at the time
+-- What is left of a pure line: the words to write, and the results that its operations show, none of which would be due at the time
 -- of another.
 pub record AreDue (u : Units) (store : Store) (r : Results) (l : Line) (buffers : CycleBuffers) : Type 0 where
   pub writes : buffers.writes ≡ writes_in store r l

@@ -5,7 +5,7 @@ ghost use Rattle.std.specs.Prelude.{None, option_map, slice_index_or};
 ghost use Rattle.std.specs.List.{find, AllByRecursion};
 ghost use Rattle.tta_ops.specs.Set.{stated};
 ghost use Rattle.tta_arch.specs.Effects.{Written, store_data, store_frame};
-ghost use Rattle.tta_sim.specs.Places.{HasWritten};
+ghost use Rattle.tta_sim.specs.Places.{place_count, HasWritten};
 ghost use Rattle.tta_sim.specs.Known.{Grows};
 ghost use Rattle.tta_sim.specs.Starts.{puts};
 ghost use Rattle.tta_sim.specs.Writing.{numbered, ArePlaces};
@@ -19,7 +19,7 @@ use crate::cycle_step::CycleStep;
 use crate::decoded::Line;
 use crate::dues::note_results;
 use crate::lines::Write;
-use crate::ready::{find_fault, find_fault_quietly};
+use crate::ready::{find_fault, find_pure_fault};
 use crate::results::Results;
 use crate::run::{Context, Run};
 use crate::spaces::{put_out, store_all};
@@ -61,8 +61,8 @@ fn put_all(store: &mut Store, starts: &[Start]) -> Option<u32>
 
 /// Writes the words that were collected, and goes on to the next cycle.
 #[inline(always)]
-fn go_on(store: &mut Store, writes: &[Write])
-    requires writes { AllByRecursion (λ w. w.place < 609) writes.now }
+fn finish_cycle(store: &mut Store, writes: &[Write])
+    requires writes { AllByRecursion (λ w. w.place < place_count) writes.now }
     requires few { store.old.cycle + 256 < 2 ^ 64 }
     ensures written { (new old : Written) → writes.now ≡ numbered new → ArePlaces new
         → HasWritten store.old.places old → HasWritten store.new.places (new ++ old) }
@@ -76,16 +76,16 @@ fn go_on(store: &mut Store, writes: &[Write])
     store.cycle += 1;
 }
 
-/// Carries out a cycle with a quiet line: it neither stores, outputs nor takes a word, and has no
+/// Carries out a cycle with a pure line: it neither stores, outputs nor takes a word, and has no
 /// control move.
 #[inline(always)]
-pub fn carry_quietly(
+pub fn carry_pure(
     run: &mut Run,
     region: &mut Region,
     context: &Context<'_>,
     line: &Line,
 ) -> CycleStep
-    requires quiet { line.now.quiet ≡ true }
+    requires pure { line.now.pure ≡ true }
     requires ready { let old = kept_as run.old.store run.old.control region.old in
         IsAtLine context.now.part line.now old }
     ensures silent { is_silent result ≡ true }
@@ -96,11 +96,11 @@ pub fn carry_quietly(
 {
     let results = Results::of(region, context.part);
     let units = context.units;
-    if let Some(number) = find_fault_quietly(&mut run.buffers, &run.store, &results, units, line) {
+    if let Some(number) = find_pure_fault(&mut run.buffers, &run.store, &results, units, line) {
         return stop(&mut run.control, number);
     }
     begin_all(region, context.part, run.buffers.dues.as_slice());
-    go_on(&mut run.store, run.buffers.writes.as_slice());
+    finish_cycle(&mut run.store, run.buffers.writes.as_slice());
     // No control move acted, so no delay is asked for.
     run.control.advance(None, run.store.cycle, 0);
     CycleStep::Ran {
@@ -145,7 +145,7 @@ fn carry_any(
     );
     begin_all(region, context.part, run.buffers.dues.as_slice());
     let put = put_all(&mut run.store, starts);
-    go_on(&mut run.store, run.buffers.writes.as_slice());
+    finish_cycle(&mut run.store, run.buffers.writes.as_slice());
     run.control.advance(acting, run.store.cycle, context.delay);
     CycleStep::Ran { put, took }
 }
@@ -167,8 +167,8 @@ pub fn carry(
         let new = kept_as run.new.store run.new.control region.new in
         IsCycle U context.now.part context.now.delay line.now next old new result }
 {
-    if line.quiet {
-        return carry_quietly(run, region, context, line);
+    if line.pure {
+        return carry_pure(run, region, context, line);
     }
     carry_any(run, region, context, line, next)
 }

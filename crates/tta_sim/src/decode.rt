@@ -9,7 +9,7 @@ ghost use Rattle.std.specs.List.{list_any};
 ghost use Rattle.tta_arch.specs.Effects.{KeptReg, KeptImm, op_at, width_of};
 ghost use Rattle.tta_sim.specs.Places.{number_of};
 ghost use Rattle.tta_sim.specs.Decoded.{source_decoded, guard_decoded, reading_of, write_decoded};
-ghost use Rattle.tta_sim.specs.Decoded.{start_decoded, control_decoded, is_loud_start, is_quiet};
+ghost use Rattle.tta_sim.specs.Decoded.{start_decoded, control_decoded, is_loud_start, is_pure};
 ghost use Rattle.tta_sim.specs.Decoded.{long_decoded, line_of, lines_from, with_move};
 
 use crate::control::ControlKind;
@@ -206,7 +206,7 @@ fn add_move(line: &mut Line, m: &Machine, back: u32, slot: &Option<Move>) -> Res
 /// Adds what the moves and the long immediate of an instruction do.
 fn add_moves(line: &mut Line, m: &Machine, back: u32, i: &Instruction) -> Result<(), AllocError>
     requires { line.old ≡ line_of m.now back (record { moves = []; long = None }) }
-    ensures { OnOk result (line.new ≡ record (line_of m.now back i.now) { quiet = true }) }
+    ensures { OnOk result (line.new ≡ record (line_of m.now back i.now) { pure = true }) }
 {
     for slot in i.moves.as_slice() {
         add_move(line, m, back, slot)?;
@@ -227,8 +227,8 @@ fn any_loud(starts: &[DecodedStart]) -> bool
 }
 
 /// Whether no operation stores, outputs or takes a word, and there is no control move.
-fn is_quiet(starts: &Items<DecodedStart>, controls: &Items<DecodedControl>) -> bool
-    ensures { result ≡ is_quiet starts.now controls.now }
+fn is_pure(starts: &Items<DecodedStart>, controls: &Items<DecodedControl>) -> bool
+    ensures { result ≡ is_pure starts.now controls.now }
 {
     !any_loud(starts.as_slice()) && controls.is_empty()
 }
@@ -241,10 +241,10 @@ fn line(alloc: Global, m: &Machine, back: u32, i: &Instruction) -> Result<Line, 
         writes: Items::new(alloc),
         starts: Items::new(alloc),
         controls: Items::new(alloc),
-        quiet: true,
+        pure: true,
     };
     add_moves(&mut line, m, back, i)?;
-    line.quiet = is_quiet(&line.starts, &line.controls);
+    line.pure = is_pure(&line.starts, &line.controls);
     Ok(line)
 }
 

@@ -62,5 +62,5 @@ pub struct Line {
     pub controls: Items<DecodedControl>,
     /// Whether no operation stores, outputs or takes a word, and there is no control move, as in most
     /// instructions.
-    pub quiet: bool,
+    pub pure: bool,
 }

@@ -3,7 +3,7 @@
 ghost use Rattle.std.specs.Prelude.{◌≡◌, ◌==◌, None, true, if◌then◌else◌, is_some, nat_lt};
 ghost use Rattle.std.specs.Prelude.{slice_index_or, IsTrue};
 ghost use Rattle.tta_arch.specs.Effects.{KeptOperand};
-ghost use Rattle.tta_sim.specs.Places.{is_place, number_of};
+ghost use Rattle.tta_sim.specs.Places.{is_place, number_of, place_count};
 ghost use Rattle.std.specs.Option.{option_map_or, unwrap_or};
 ghost use Rattle.std.specs.List.{list_all, AllByRecursion};
 ghost use Rattle.tta_sim.specs.Results.{results_at, shown_by, AreThere};
@@ -128,7 +128,7 @@ fn word_known(places: &Places, results: &Results<'_>, r: &Reading) -> u32
 /// Whether a move acts whose guard has a word, if it has one.
 #[inline(always)]
 fn is_let(places: &Places, r: &Reading) -> bool
-    requires there { option_map_or (λ g. nat_lt g.place 609) r.now.guard true ≡ true }
+    requires there { option_map_or (λ g. nat_lt g.place place_count) r.now.guard true ≡ true }
     requires known { is_guard_known places.now r.now.guard ≡ true }
     ensures { result ≡ is_guard_let places.now r.now.guard }
 {

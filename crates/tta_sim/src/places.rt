@@ -3,7 +3,7 @@
 ghost use Rattle.std.specs.Prelude.{◌≡◌, ◌<◌, ◌==◌, [], ◌∷◌, ℕ, None, Some, if◌then◌else◌};
 ghost use Rattle.std.specs.Prelude.{slice_index_or, IfOk, IsTrue};
 ghost use Rattle.tta_arch.specs.Effects.{KeptReg, KeptImm, KeptOperand, KeptRa, Place, Written};
-ghost use Rattle.tta_sim.specs.Places.{is_place, number_of, word_at, HasWritten};
+ghost use Rattle.tta_sim.specs.Places.{is_place, number_of, place_count, word_at, HasWritten};
 
 use std::alloc::{AllocError, Global};
 use std::marker::Model;
@@ -40,7 +40,7 @@ impl Model for Places {
 
     ghost view = { λ p. p.words.items };
 
-    ghost invariant = { λ p. length p.words.items ≡ 609 };
+    ghost invariant = { λ p. length p.words.items ≡ place_count };
 }
 
 impl Places {
@@ -55,7 +55,7 @@ impl Places {
 
     /// The word of the place with this number in the row.
     pub fn at(&self, number: u32) -> Option<u32>
-        requires { number < 609 }
+        requires { number < place_count }
         ensures { result ≡ slice_index_or self.now number None }
     {
         self.words[number as usize]
@@ -95,10 +95,11 @@ impl Places {
 
     /// Puts a word into the place with this number in the row.
     pub fn set(&mut self, number: usize, word: u32)
-        requires { number < 609 }
+        requires { number < place_count }
         ensures at { (k : ℕ) → slice_index_or self.new k None
             ≡ (if k == number then Some word else slice_index_or self.old k None) }
-        ensures written { (p : Place) → (written : Written) → IsTrue (is_place p) → number_of p ≡ number
+        ensures written { (p : Place) → (written : Written)
+            → IsTrue (is_place p) → number_of p ≡ number
             → HasWritten self.old written → HasWritten self.new ((p, word) ∷ written) }
     {
         self.words[number] = Some(word);

@@ -101,10 +101,10 @@ pub fn find_fault(
     Some(fault_of(buffers, store, results.reborrow(), line))
 }
 
-/// Collects what a quiet line writes and which results its operations show, and answers whether all of
+/// Collects what a pure line writes and which results its operations show, and answers whether all of
 /// its moves can be carried out.
 #[inline(always)]
-fn is_ready_quietly(
+fn is_pure_ready(
     buffers: &mut CycleBuffers,
     store: &Store,
     results: &Results<'_>,
@@ -112,7 +112,7 @@ fn is_ready_quietly(
     line: &Line,
 ) -> bool
     requires there { IsLineThere results.now.units line.now }
-    requires quiet { line.now.quiet ≡ true }
+    requires pure { line.now.pure ≡ true }
     ensures ready { (is_pending : Bool)
         → result ≡ is_ready store.now.places results.now is_pending line.now }
     ensures noted { let shown = shown_by results.now in
@@ -129,10 +129,10 @@ fn is_ready_quietly(
     note_dues(&mut buffers.dues, writes, store, results, units, moves)
 }
 
-/// Collects what a quiet line writes and which results its operations show, or answers the fault of
+/// Collects what a pure line writes and which results its operations show, or answers the fault of
 /// its cycle.
 #[inline(always)]
-pub fn find_fault_quietly(
+pub fn find_pure_fault(
     buffers: &mut CycleBuffers,
     store: &Store,
     results: &Results<'_>,
@@ -140,13 +140,13 @@ pub fn find_fault_quietly(
     line: &Line,
 ) -> Option<u8>
     requires there { IsLineThere results.now.units line.now }
-    requires quiet { line.now.quiet ≡ true }
+    requires pure { line.now.pure ≡ true }
     ensures fault { (is_pending : Bool)
         → IsFaultOf store.now.places results.now is_pending line.now result }
     ensures left { let U = stated unit_meaning units.now in
         result ≡ None → AreDue U store.now results.now line.now buffers.new }
 {
-    if is_ready_quietly(buffers, store, results, units, line) {
+    if is_pure_ready(buffers, store, results, units, line) {
         return None;
     }
     Some(fault_of(buffers, store, results.reborrow(), line))

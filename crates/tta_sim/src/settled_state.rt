@@ -4,7 +4,7 @@ ghost use Rattle.std.specs.Prelude.{◌≡◌, ◌+◌, ◌<◌, ◌≤◌, ◌^
 ghost use Rattle.tta_ops.specs.Set.{stated};
 ghost use Rattle.tta_code.specs.Cycle.{State, next as next_state};
 ghost use Rattle.tta_sim.specs.Results.{AreKept, HasUnits, units_of};
-ghost use Rattle.tta_sim.specs.Held.{StandsWith, IsQuiet, IsStateOf};
+ghost use Rattle.tta_sim.specs.Held.{StandsWith, IsSilentRun, IsStateOf};
 ghost use Rattle.tta_sim.specs.Known.{all_shown, AreMarked};
 
 use crate::control::Phase;
@@ -53,7 +53,7 @@ impl SimState {
         ensures counted { self.new.cycle ≤ self.old.cycle + (if result then 1 else 0) }
         ensures next { let U = stated unit_meaning units.now in (s : State)
             → StandsWith (units_of 0 m.now region.old) self.old s
-            → IsQuiet (StandsWith (units_of 0 m.now region.new) self.new) s
+            → IsSilentRun (StandsWith (units_of 0 m.now region.new) self.new) s
             (if result then next_state U m.now code.now s else s) }
     {
         // So that it is known here that the machine's rules hold.

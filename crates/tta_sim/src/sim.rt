@@ -13,8 +13,8 @@ ghost use Rattle.tta_code.specs.Results.{due_at};
 ghost use Rattle.tta_sim.specs.Results.{HasUnits, AreResultsOf, units_of};
 ghost use Rattle.tta_list.specs.Input.{IsFed};
 ghost use Rattle.tta_list.specs.Iterate.{iterate};
-ghost use Rattle.tta_sim.specs.Held.{Stands, GoesTo, IsAnswer, IsQuiet, IsRunOf, has_taken};
-ghost use Rattle.tta_sim.specs.Held.{cycles_of, goes_quietly, is_halted, fault_number, as_outcome};
+ghost use Rattle.tta_sim.specs.Held.{Stands, GoesTo, IsAnswer, IsSilentRun, IsRunOf, has_taken};
+ghost use Rattle.tta_sim.specs.Held.{cycles_of, goes_pure, is_halted, fault_number, as_outcome};
 ghost use Rattle.tta_sim.specs.declared.cycle_step.CycleStep.TheVariants.{Waiting};
 
 use crate::cycle_step::CycleStep;
@@ -137,45 +137,44 @@ impl Sim {
         ensures stays { result ≡ false → self.new ≡ self.old }
         ensures counted { self.new.cycle ≤ self.old.cycle + (if result then 1 else 0) }
         ensures next { let U = stated unit_meaning units.now in (s : State) → Stands self.old s
-            → IsQuiet (Stands self.new) s (if result then next_state U m.now code.now s else s) }
+            → IsSilentRun (Stands self.new) s (if result then next_state U m.now code.now s else s) }
     {
         self.state
             .cycle_in_place(&mut self.region, &mut self.marks, m, code, units)
     }
 
-    /// Carries out one cycle with a quiet line, and answers whether it did. It is not in line, since
+    /// Carries out one cycle with a pure line, and answers whether it did. It is not in line, since
     /// most cycles are made in place.
     #[inline(never)]
-    fn cycle_quietly(&mut self, m: &Machine, code: &Code, units: &UnitSet) -> bool
+    fn cycle_pure(&mut self, m: &Machine, code: &Code, units: &UnitSet) -> bool
         requires loaded { IsRunOf m.now code.now self.old }
         requires few { self.old.cycle < 2 ^ 62 }
         ensures loaded { IsRunOf m.now code.now self.new }
         ensures stops { result ≡ false
-            → goes_quietly self.new.lines self.new.pc self.new.outcome ≡ false }
+            → goes_pure self.new.lines self.new.pc self.new.outcome ≡ false }
         ensures counted { self.new.cycle ≤ self.old.cycle + (if result then 1 else 0) }
         ensures next { let U = stated unit_meaning units.now in (s : State) → Stands self.old s
-            → IsQuiet (Stands self.new) s (if result then next_state U m.now code.now s else s) }
+            → IsSilentRun (Stands self.new) s (if result then next_state U m.now code.now s else s) }
     {
-        self.state
-            .cycle_quietly(&mut self.region, 0, m, code, units)
+        self.state.cycle_pure(&mut self.region, 0, m, code, units)
     }
 
-    /// Carries out one cycle as `go_on` does, and answers whether it did.
+    /// Carries out one cycle as `run_silent` does, and answers whether it did.
     #[inline(always)]
     fn cycle_silently(&mut self, m: &Machine, code: &Code, units: &UnitSet) -> bool
         requires loaded { IsRunOf m.now code.now self.old }
         requires few { self.old.cycle < 2 ^ 62 }
         ensures loaded { IsRunOf m.now code.now self.new }
         ensures stops { result ≡ false
-            → goes_quietly self.new.lines self.new.pc self.new.outcome ≡ false }
+            → goes_pure self.new.lines self.new.pc self.new.outcome ≡ false }
         ensures counted { self.new.cycle ≤ self.old.cycle + (if result then 1 else 0) }
         ensures next { let U = stated unit_meaning units.now in (s : State) → Stands self.old s
-            → IsQuiet (Stands self.new) s (if result then next_state U m.now code.now s else s) }
+            → IsSilentRun (Stands self.new) s (if result then next_state U m.now code.now s else s) }
     {
         if self.cycle_in_place(m, code, units) {
             return true;
         }
-        self.cycle_quietly(m, code, units)
+        self.cycle_pure(m, code, units)
     }
 
     /// Carries out so many cycles of the code that was loaded, or as many as there are until a line
@@ -183,16 +182,16 @@ impl Sim {
     /// until the run is over. It answers how many it carried out, one that faults among them. It takes
     /// no memory.
     #[inline(never)]
-    pub fn go_on(&mut self, m: &Machine, code: &Code, units: &UnitSet, most: u64) -> u64
+    pub fn run_silent(&mut self, m: &Machine, code: &Code, units: &UnitSet, most: u64) -> u64
         requires loaded { IsRunOf m.now code.now self.old }
         requires few { self.old.cycle + most < 2 ^ 62 }
         ensures loaded { IsRunOf m.now code.now self.new }
         ensures within { result ≤ most }
         ensures stops { result < most
-            → goes_quietly self.new.lines self.new.pc self.new.outcome ≡ false }
+            → goes_pure self.new.lines self.new.pc self.new.outcome ≡ false }
         ensures counted { self.new.cycle ≤ self.old.cycle + result }
         ensures next { let U = stated unit_meaning units.now in (s : State) → Stands self.old s
-            → IsQuiet (Stands self.new) s (iterate result (next_state U m.now code.now) s) }
+            → IsSilentRun (Stands self.new) s (iterate result (next_state U m.now code.now) s) }
     {
         let mut made = 0;
         'cycles: while made < most {

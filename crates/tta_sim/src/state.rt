@@ -9,11 +9,11 @@ ghost use Rattle.tta_flight.specs.Flight.{StayBeside};
 ghost use Rattle.tta_sim.specs.Known.{KeepsWords};
 ghost use Rattle.tta_sim.specs.Results.{Results, AreResultsOf, AreKept, HasUnits, units_of};
 ghost use Rattle.tta_list.specs.Input.{IsFed};
-ghost use Rattle.tta_sim.specs.Held.{StandsWith, GoesWith, IsAnswer, IsQuiet, IsStateOf, has_taken};
-ghost use Rattle.tta_sim.specs.Held.{cycles_of, goes_quietly};
+ghost use Rattle.tta_sim.specs.Held.{StandsWith, GoesWith, IsAnswer, IsSilentRun, IsStateOf, has_taken};
+ghost use Rattle.tta_sim.specs.Held.{cycles_of, goes_pure};
 ghost use Rattle.tta_sim.specs.declared.cycle_step.CycleStep.TheVariants.{Waiting};
 
-use crate::carry::{carry, carry_quietly};
+use crate::carry::{carry, carry_pure};
 use crate::control::{Control, Phase};
 use crate::cycle_step::CycleStep;
 use crate::decode::decode;
@@ -142,10 +142,10 @@ impl SimState {
     }
 
     /// Carries out one cycle of the code that was loaded, if the run goes on and the cycle's line is
-    /// quiet, so that it outputs nothing and takes nothing. It answers whether it did; else all
+    /// pure, so that it outputs nothing and takes nothing. It answers whether it did; else all
     /// stays. It takes no memory.
     #[inline(always)]
-    pub fn cycle_quietly(
+    pub fn cycle_pure(
         &mut self,
         region: &mut Region,
         base: u8,
@@ -164,13 +164,13 @@ impl SimState {
         ensures waits { result ≡ false → self.new ≡ self.old }
         ensures stays { result ≡ false → region.new ≡ region.old }
         ensures stops { result ≡ false
-            → goes_quietly self.new.lines self.new.pc self.new.outcome ≡ false }
+            → goes_pure self.new.lines self.new.pc self.new.outcome ≡ false }
         ensures runs { result ≡ true → self.old.outcome ≡ Running }
         ensures grows { self.old.cycle ≤ self.new.cycle }
         ensures counted { self.new.cycle ≤ self.old.cycle + (if result then 1 else 0) }
         ensures next { let U = stated unit_meaning units.now in (s : State)
             → StandsWith (units_of base m.now region.old) self.old s
-            → IsQuiet (StandsWith (units_of base m.now region.new) self.new) s
+            → IsSilentRun (StandsWith (units_of base m.now region.new) self.new) s
             (if result then next_state U m.now code.now s else s) }
     {
         // So that it is known here that the machine's rules hold.
@@ -183,7 +183,7 @@ impl SimState {
             return false;
         }
         let line = &self.lines.as_slice()[self.run.control.pc as usize];
-        if !line.quiet {
+        if !line.pure {
             return false;
         }
         let context = Context {
@@ -191,7 +191,7 @@ impl SimState {
             delay: m.control.delay,
             units,
         };
-        carry_quietly(&mut self.run, region, &context, line);
+        carry_pure(&mut self.run, region, &context, line);
         true
     }
 }

@@ -42,7 +42,8 @@ impl SimState {
 
     /// The return address, `None` where none was ever kept.
     pub fn return_address(&self) -> Option<u32>
-        ensures { (r : Results) (s : State) → StandsWith r self.now s → result ≡ kept s.written KeptRa }
+        ensures { (r : Results) (s : State) → StandsWith r self.now s
+            → result ≡ kept s.written KeptRa }
     {
         self.run.store.places.return_address()
     }

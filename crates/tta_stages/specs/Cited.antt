@@ -1,7 +1,7 @@
 -- What the definitions and lemmas of this crate cite of other crates, passed on from one place. Declares nothing.
 unfoldable pub use Rattle.tta_alloc.specs.Homes.{home_of}
 pub use Rattle.tta_alloc.specs.Intervals.{Counts, IsAssigned, IsInterval, IsLiveAfter, IsLiveAtEntry, IsLiveBefore, IsParam, IsRead}
-pub use Rattle.tta_alloc.specs.Known.{Known}
+pub use Rattle.tta_alloc.specs.IsAnalysed.{IsAnalysed}
 pub use Rattle.tta_alloc.specs.declared.home.Home.{Home}
 pub use Rattle.tta_alloc.specs.declared.home.Home.TheVariants.{Slot}
 pub use Rattle.tta_alloc.specs.declared.interval.Interval.{Interval}
@@ -38,7 +38,7 @@ pub use Rattle.tta_flow.specs.declared.flow.Block.{Block}
 pub use Rattle.tta_flow.specs.declared.live.Live.{Live}
 pub use Rattle.tta_link.specs.Blocks.{total_length}
 pub use Rattle.tta_link.specs.Linked.{IsLinked, starts_from}
-pub use Rattle.tta_lower.specs.Known.{first_by}
+pub use Rattle.tta_lower.specs.LoweringInput.{first_by}
 pub use Rattle.tta_lower.specs.Lower.{parts}
 pub use Rattle.tta_lower.specs.declared.part.Part.{Part}
 pub use Rattle.tta_lower.specs.declared.part.Part.TheVariants.{Entry, Returned, Steps}

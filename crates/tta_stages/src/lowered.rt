@@ -3,7 +3,7 @@
 ghost use Rattle.std.specs.Prelude.{◌≡◌, IfOk};
 ghost use Rattle.tta_program.specs.Rules.{IsProgram};
 ghost use Rattle.tta_flow.specs.Blocks.{IsFlow};
-ghost use Rattle.tta_lower.specs.Known.{first_by};
+ghost use Rattle.tta_lower.specs.LoweringInput.{first_by};
 ghost use Rattle.tta_lower.specs.Lower.{parts};
 
 use std::alloc::{AllocError, Global};

@@ -10,7 +10,7 @@ use Rattle.tta_program.specs.Sequential.{returns}
 use Rattle.tta_tacrun.specs.declared.phase.Phase.{Phase}
 use Rattle.tta_tacrun.specs.declared.phase.Phase.TheVariants.{Running as Runs, Stopped, Returned}
 use Rattle.tta_tacrun.specs.Calls.{Calls}
-use Rattle.tta_tacrun.specs.Run.{AreCallsOf, IsRunOf, QuietProc, code_of, is_called, is_path, is_placed, put, run_of, stack_of, state_of}
+use Rattle.tta_tacrun.specs.Run.{AreCallsOf, IsRunOf, SilentProc, code_of, is_called, is_path, is_placed, put, run_of, stack_of, state_of}
 use Rattle.tta_tacrun.proofs.Calling.{call_of}
 
 -- ---- the steps of a procedure
@@ -143,7 +143,7 @@ Carries u p c after memory new_memory phase word step next =
     → state_of phase after new_memory (left (takes step) rest) (put output word) n ≡ carry_out u p (state_of Runs c memory rest output n) c.top c.below step
 
 pub run_carried : (p : Program) → IsProgram p → (u : Units) (c after : Calls) (memory new_memory : List ℕ) (phase : Phase) (word : Option ℕ)
-    (step : Step) (next steps : ℕ) (code : List QuietProc) → code ≡ code_of p
+    (step : Step) (next steps : ℕ) (code : List SilentProc) → code ≡ code_of p
     → is_path p (c.top ∷ c.below) ≡ true → step_at p c.top.proc c.top.at ≡ Some step → AreCallsOf p after
     → Carries u p c after memory new_memory phase word step next
     → IsRunOf p (run_of phase after code new_memory steps)
@@ -156,7 +156,7 @@ run_carried p rules u c after memory new_memory phase word step next steps code 
       ∙ carried_placed p rules u (state_of Runs c memory (next ∷ []) [] 0) c.top c.below path refl step here;
 }
 
-pub run_started : (p : Program) → IsProgram p → (c : Calls) (code : List QuietProc) (memory : List ℕ) (steps : ℕ)
+pub run_started : (p : Program) → IsProgram p → (c : Calls) (code : List SilentProc) (memory : List ℕ) (steps : ℕ)
     → c ≡ record { sizes = map (λ q. q.vars) p.procs; top = enter p p.main []; below = [] } → code ≡ code_of p
     → IsRunOf p (run_of Runs c code memory steps)
 run_started p rules c code memory steps is coded = rw is (

@@ -8,11 +8,11 @@ use Rattle.tta_tacrun.specs.declared.answer.SeqStep.TheVariants.{Ran, Halted as 
 use Rattle.tta_tacrun.specs.declared.phase.Phase.{Phase}
 use Rattle.tta_tacrun.specs.declared.phase.Phase.TheVariants.{Running as Runs}
 use Rattle.tta_tacrun.specs.Calls.{Calls}
-use Rattle.tta_tacrun.specs.Run.{Run, QuietProc, Stands, IsAnswer, IsQuiet, put, run_of, state_of}
+use Rattle.tta_tacrun.specs.Run.{Run, SilentProc, Stands, IsAnswer, IsSilentRun, put, run_of, state_of}
 use Rattle.tta_tacrun.proofs.Placed.{Carries}
 
 -- a state is what it stands for, its input and its output
-state_is : (phase : Phase) (c : Calls) (code : List QuietProc) (memory : List ℕ) (steps : ℕ) (s : State)
+state_is : (phase : Phase) (c : Calls) (code : List SilentProc) (memory : List ℕ) (steps : ℕ) (s : State)
     → Stands (run_of phase c code memory steps) s → s ≡ state_of phase c memory s.rest s.output steps
 state_is phase c code memory steps s same = rw (same.stack, same.memory, same.steps, same.outcome) refl
 
@@ -20,7 +20,7 @@ put_is : (output : List ℕ) (word : Option ℕ) → put output word ≡ output 
 put_is output None = sym (append-nil output)
 put_is output (Some word) = refl
 
-module _ (u : Units) (p : Program) (c : Calls) (code : List QuietProc) (memory : List ℕ) (steps : ℕ) (step : Step) (here : step_at p c.top.proc c.top.at ≡ Some step)
+module _ (u : Units) (p : Program) (c : Calls) (code : List SilentProc) (memory : List ℕ) (steps : ℕ) (step : Step) (here : step_at p c.top.proc c.top.at ≡ Some step)
     (s : State) (same : Stands (run_of Runs c code memory steps) s) where
   -- the step of a run that goes on
   goes : next u p s ≡ goes_through u p (state_of Runs c memory s.rest s.output steps) c.top c.below step
@@ -64,16 +64,16 @@ module _ (u : Units) (p : Program) (r : Run) (over : r.outcome ≡ Halted) (s : 
       rw still same
 
 -- steps that stay in one call
-module _ (u : Units) (p : Program) (c after : Calls) (code : List QuietProc) (memory new_memory : List ℕ) (steps k : ℕ) where
-  pub quiet_stands : (s : State) → Stands (run_of Runs c code memory steps) s
+module _ (u : Units) (p : Program) (c after : Calls) (code : List SilentProc) (memory new_memory : List ℕ) (steps k : ℕ) where
+  pub silent_stands : (s : State) → Stands (run_of Runs c code memory steps) s
       → ((rest output : List ℕ) → iterate k (next u p) (state_of Runs c memory rest output steps)
       ≡ state_of Runs after new_memory rest output (steps + k))
-      → IsQuiet (run_of Runs after code new_memory (steps + k)) s (iterate k (next u p) s)
-  quiet_stands s same made =
+      → IsSilentRun (run_of Runs after code new_memory (steps + k)) s (iterate k (next u p) s)
+  silent_stands s same made =
       let comes : iterate k (next u p) s ≡ state_of Runs after new_memory s.rest s.output (steps + k) =
       ap (iterate k (next u p)) (state_is Runs c code memory steps s same) ∙ made s.rest s.output in
       let stands : Stands (run_of Runs after code new_memory (steps + k)) (state_of Runs after new_memory s.rest s.output (steps + k)) =
       record { stack = refl; memory = refl; steps = refl; outcome = refl } in
-      let quiet : IsQuiet (run_of Runs after code new_memory (steps + k)) s (state_of Runs after new_memory s.rest s.output (steps + k)) =
+      let silent : IsSilentRun (run_of Runs after code new_memory (steps + k)) s (state_of Runs after new_memory s.rest s.output (steps + k)) =
       record { stands = stands; output = refl; rest = refl } in
-      rw comes quiet
+      rw comes silent

@@ -12,14 +12,14 @@ use Rattle.tta_tacrun.specs.Calls.{Calls}
 
 -- how many variables a procedure has, and its steps at their places, without those that output or take a word, or begin or
 -- end a call
-pub record QuietProc : Type 0 where
+pub record SilentProc : Type 0 where
   pub size : ℕ
   pub steps : List (Option Step)
 
--- all of a state but the input and the output, how many variables each procedure of the program has, and its quiet steps
+-- all of a state but the input and the output, how many variables each procedure of the program has, and its silent steps
 pub record Run : Type 0 where
   pub sizes : List ℕ
-  pub code : List QuietProc
+  pub code : List SilentProc
   pub stack : List Frame
   pub memory : List ℕ
   pub steps : ℕ
@@ -47,7 +47,7 @@ GoesOn u p after s Waits = Stands after s
 GoesOn u p after s answer = Stands after (next u p s)
 
 -- A run after steps that output nothing and take nothing: it stands for the state after them.
-pub record IsQuiet (after : Run) (s t : State) : Type 0 where
+pub record IsSilentRun (after : Run) (s t : State) : Type 0 where
   pub stands : Stands after t
   pub output : t.output ≡ s.output
   pub rest : t.rest ≡ s.rest
@@ -82,25 +82,25 @@ is_placed p [] = true
 is_placed p (f ∷ rest) = is_some (step_at p f.proc f.at)
 
 -- whether a step neither outputs nor takes a word, and neither begins nor ends a call
-abbrev pub is_quiet : Step → Bool
-is_quiet (Copy d s) = true
-is_quiet (Apply d op a b) = true
-is_quiet (Load d a) = true
-is_quiet (Store a v) = true
-is_quiet (If rel a b to) = true
-is_quiet (Goto to) = true
-is_quiet (When rel a b d s) = true
-is_quiet step = false
+abbrev pub is_silent : Step → Bool
+is_silent (Copy d s) = true
+is_silent (Apply d op a b) = true
+is_silent (Load d a) = true
+is_silent (Store a v) = true
+is_silent (If rel a b to) = true
+is_silent (Goto to) = true
+is_silent (When rel a b d s) = true
+is_silent step = false
 
 -- a step, if it is such a one
-abbrev pub quiet_part : Step → Option Step
-quiet_part step = if is_quiet step then Some step else None
+abbrev pub silent_part : Step → Option Step
+silent_part step = if is_silent step then Some step else None
 
 -- those steps of each procedure
-abbrev pub code_of : Program → List QuietProc
-code_of p = map (λ q. record { size = q.vars; steps = map quiet_part q.steps }) p.procs
+abbrev pub code_of : Program → List SilentProc
+code_of p = map (λ q. record { size = q.vars; steps = map silent_part q.steps }) p.procs
 
--- A run that was loaded with a program, and made steps of it: it has the variables and the quiet steps of each procedure, its
+-- A run that was loaded with a program, and made steps of it: it has the variables and the silent steps of each procedure, its
 -- calls were made one by the other, and there is a step to go on with.
 pub record IsRunOf (p : Program) (r : Run) : Type 0 where
   pub sizes : r.sizes ≡ map (λ q. q.vars) p.procs
@@ -128,7 +128,7 @@ state_of phase c memory rest output steps =
     record { stack = stack_of phase c; memory = memory; rest = rest; output = output; steps = steps; outcome = outcome_of phase }
 
 -- what is held where these are kept
-abbrev pub run_of : Phase → Calls → (code : List QuietProc) (memory : List ℕ) (steps : ℕ) → Run
+abbrev pub run_of : Phase → Calls → (code : List SilentProc) (memory : List ℕ) (steps : ℕ) → Run
 run_of phase c code memory steps = record {
   sizes = c.sizes;
   code = code;
@@ -149,13 +149,13 @@ put output None = output
 put output (Some word) = output ++ word ∷ []
 
 -- whether there is such a step
-abbrev pub is_quiet_there : Option Step → Bool
-is_quiet_there step = option_map_or is_quiet step false
+abbrev pub is_silent_there : Option Step → Bool
+is_silent_there step = option_map_or is_silent step false
 
 -- whether the innermost of these calls stands at such a step
-abbrev pub goes_quietly : Program → List Frame → Bool
-goes_quietly p [] = false
-goes_quietly p (f ∷ rest) = is_quiet_there (step_at p f.proc f.at)
+abbrev pub goes_silent : Program → List Frame → Bool
+goes_silent p [] = false
+goes_silent p (f ∷ rest) = is_silent_there (step_at p f.proc f.at)
 
 -- the variable that takes the value of a call, where a step is a call that has one
 abbrev pub destination : Step → Option ℕ
@@ -178,13 +178,13 @@ going proc at vars callers memory rest output steps =
       outcome = Running;
     }
 
--- the quiet step at a place, if there is one
-abbrev pub quiet_at : Program → (proc at : ℕ) → Option Step
-quiet_at p proc at = option_map_or quiet_part (step_at p proc at) None
+-- the silent step at a place, if there is one
+abbrev pub silent_at : Program → (proc at : ℕ) → Option Step
+silent_at p proc at = option_map_or silent_part (step_at p proc at) None
 
--- the steps at their places are the quiet ones of a procedure
-abbrev pub AreQuietOf : Program → (proc : ℕ) → List (Option Step) → Type 0
-AreQuietOf p proc steps = (at : ℕ) → slice_index_or steps at None ≡ quiet_at p proc at
+-- the steps at their places are the silent ones of a procedure
+abbrev pub AreSilentOf : Program → (proc : ℕ) → List (Option Step) → Type 0
+AreSilentOf p proc steps = (at : ℕ) → slice_index_or steps at None ≡ silent_at p proc at
 
 -- a procedure has no step at a place that is not below this number
 abbrev pub HasSteps : Program → (proc count : ℕ) → Type 0

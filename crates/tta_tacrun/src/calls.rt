@@ -11,7 +11,7 @@ ghost use Rattle.tta_program.specs.Sequential.{carry_out, enter, next, operand, 
 ghost use Rattle.tta_tacrun.specs.Calls.{IsFresh, begun};
 ghost use Rattle.tta_tacrun.specs.Code.{said_proc};
 ghost use Rattle.tta_tacrun.specs.Flat.{has_variables};
-ghost use Rattle.tta_tacrun.specs.Run.{frame, is_quiet, state_of, AreQuietOf, HasSteps};
+ghost use Rattle.tta_tacrun.specs.Run.{frame, is_silent, state_of, AreSilentOf, HasSteps};
 
 use crate::basis::Basis;
 use crate::cells::Cells;
@@ -20,8 +20,8 @@ use crate::flat::flat_of;
 use crate::flat_proc::FlatProc;
 use crate::pass::{pass, value_of};
 use crate::phase::Phase;
-use crate::quiet::{Leg, go_on, go_quietly};
 use crate::relations::Relations;
+use crate::silent::{Leg, run_silent, step_silent};
 use crate::words::Words;
 use std::alloc::{AllocError, Global};
 use std::marker::Model;
@@ -122,7 +122,7 @@ impl Calls {
 
     /// The innermost call makes a step that neither outputs nor takes a word, and neither begins nor
     /// ends a call. It answers whether the step is such a one; where it is another, nothing changes.
-    pub fn go_quietly(
+    pub fn step_silent(
         &mut self,
         memory: &mut Words,
         relations: &mut Relations,
@@ -132,7 +132,7 @@ impl Calls {
         requires more { self.old.top.at + 1 < 2 ^ 64 }
         requires there { let size = slice_index self.old.sizes self.old.top.proc in
             has_variables size step.now ≡ true }
-        ensures quiet { result ≡ is_quiet step.now }
+        ensures silent { result ≡ is_silent step.now }
         ensures takes { result ≡ true → takes step.now ≡ false }
         ensures space { length memory.new ≡ length memory.old }
         ensures memory { result ≡ false → memory.new ≡ memory.old }
@@ -147,7 +147,7 @@ impl Calls {
     {
         let vars = &mut self.variables[self.top.proc];
         let flat = flat_of(vars.len(), step);
-        let Some(to) = go_quietly(vars, memory, relations, units, &flat, self.top.at) else {
+        let Some(to) = step_silent(vars, memory, relations, units, &flat, self.top.at) else {
             return false;
         };
         self.top.at = to;
@@ -157,7 +157,7 @@ impl Calls {
     /// The innermost call makes so many of its steps, or as many as there are until one outputs or
     /// takes a word, or begins or ends a call. It answers how many it made.
     #[inline(always)]
-    pub fn go_on(
+    pub fn run_silent(
         &mut self,
         memory: &mut Words,
         relations: &mut Relations,
@@ -167,9 +167,10 @@ impl Calls {
     ) -> u64
         requires size { flat.now.size ≡ slice_index self.old.sizes self.old.top.proc }
         requires rules { IsProgram basis.now.p.now }
-        requires quiet { AreQuietOf basis.now.p.now self.old.top.proc (said_proc flat.now).steps }
+        requires silent { AreSilentOf basis.now.p.now self.old.top.proc (said_proc flat.now).steps }
         requires all { HasSteps basis.now.p.now self.old.top.proc (length flat.now.steps.items) }
-        requires placed { is_some (step_at basis.now.p.now self.old.top.proc self.old.top.at) ≡ true }
+        requires placed { let p = basis.now.p.now in
+            is_some (step_at p self.old.top.proc self.old.top.at) ≡ true }
         ensures within { result ≤ most }
         ensures stops { result < most
             → slice_index_or (said_proc flat.now).steps self.new.top.at None ≡ None }
@@ -181,7 +182,8 @@ impl Calls {
             let s = state_of Phase.Running self.old memory.old rest output n in
             iterate result (next U basis.now.p.now) s
             ≡ state_of Phase.Running self.new memory.new rest output (n + result) }
-        ensures placed { is_some (step_at basis.now.p.now self.old.top.proc self.new.top.at) ≡ true }
+        ensures placed { let p = basis.now.p.now in
+            is_some (step_at p self.old.top.proc self.new.top.at) ≡ true }
     {
         let mut leg = Leg {
             proc: self.top.proc,
@@ -190,7 +192,7 @@ impl Calls {
         };
         let vars = &mut self.variables[self.top.proc];
         let steps = flat.steps.as_slice();
-        go_on(vars, memory, relations, basis, steps, &mut leg);
+        run_silent(vars, memory, relations, basis, steps, &mut leg);
         self.top.at = leg.at;
         most - leg.left
     }

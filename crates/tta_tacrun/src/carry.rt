@@ -10,7 +10,7 @@ ghost use Rattle.tta_program.specs.Sequential.{State, operand, step_at, takes, r
 ghost use Rattle.tta_program.specs.Sequential.{carry_out};
 ghost use Rattle.tta_program.specs.Sequential.{take_value as value_taken};
 ghost use Rattle.tta_list.specs.Input.{left};
-ghost use Rattle.tta_tacrun.specs.Run.{AreCallsOf, is_quiet, state_of, put, destination};
+ghost use Rattle.tta_tacrun.specs.Run.{AreCallsOf, is_silent, state_of, put, destination};
 
 use crate::basis::Basis;
 use crate::calls::Calls;
@@ -132,7 +132,7 @@ fn carry_any(calls: &mut Calls, p: &Program, step: &Step, next: u32) -> (Phase, 
     requires loaded { AreCallsOf p.now calls.old }
     requires at { step_at p.now calls.old.top.proc calls.old.top.at ≡ Some step.now }
     requires more { calls.old.top.at + 1 < 2 ^ 64 }
-    requires loud { is_quiet step.now ≡ false }
+    requires loud { is_silent step.now ≡ false }
     ensures loaded { AreCallsOf p.now calls.new }
     ensures carried { (U : Units) (memory rest output : List ℕ) (steps : ℕ)
         → slice_index rest 0 ≡ next
@@ -182,7 +182,7 @@ pub fn carry(
         state_of result.0 calls.new memory.new after (put output result.1) steps
         ≡ carry_out U basis.now.p.now s calls.old.top calls.old.below step.now }
 {
-    if calls.go_quietly(memory, relations, basis.units, step) {
+    if calls.step_silent(memory, relations, basis.units, step) {
         return (Phase::Running, None);
     }
     carry_any(calls, basis.p, step, next)

@@ -4,7 +4,7 @@ ghost use Rattle.std.specs.Prelude.{◌≡◌, IfOk, map, true};
 ghost use Rattle.std.specs.List.{list_all};
 ghost use Rattle.tta_program.specs.Rules.{is_src};
 ghost use Rattle.tta_tacrun.specs.Flat.{has_cells, has_variables, is_operand, said, src_of};
-ghost use Rattle.tta_tacrun.specs.Run.{quiet_part};
+ghost use Rattle.tta_tacrun.specs.Run.{silent_part};
 
 use std::alloc::{AllocError, Global};
 use tta_ops::OpId;
@@ -75,7 +75,7 @@ fn operand_of(size: u32, s: Src) -> Operand
 /// A step of a procedure with so many variables.
 pub fn flat_of(size: u32, step: &Step) -> FlatStep
     requires { has_variables size step.now ≡ true }
-    ensures said { said size result ≡ quiet_part step.now }
+    ensures said { said size result ≡ silent_part step.now }
     ensures within { has_cells size result ≡ true }
 {
     match step {
@@ -118,7 +118,7 @@ pub fn flat_of(size: u32, step: &Step) -> FlatStep
 /// The steps of a procedure with so many variables.
 pub fn flat_steps(alloc: Global, size: u32, steps: &[Step]) -> Result<Vec<FlatStep>, AllocError>
     requires { list_all (has_variables size) steps.now ≡ true }
-    ensures said { IfOk result (λ v. map (said size) v.items ≡ map quiet_part steps.now) }
+    ensures said { IfOk result (λ v. map (said size) v.items ≡ map silent_part steps.now) }
     ensures within { IfOk result (λ v. list_all (has_cells size) v.items ≡ true) }
 {
     let mut flat = Vec::with_capacity(alloc, steps.len())?;

@@ -12,9 +12,9 @@ mod flat;
 mod flat_proc;
 mod pass;
 mod phase;
-mod quiet;
 mod relations;
 mod seq;
+mod silent;
 mod words;
 
 pub use answer::SeqStep;

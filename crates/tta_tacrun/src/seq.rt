@@ -6,8 +6,8 @@ ghost use Rattle.tta_ops.specs.Set.{stated};
 ghost use Rattle.tta_program.specs.Sequential.{State, Running, next, start};
 ghost use Rattle.tta_list.specs.Input.{IsFed};
 ghost use Rattle.tta_list.specs.Iterate.{iterate};
-ghost use Rattle.tta_tacrun.specs.Run.{Stands, IsAnswer, IsQuiet, GoesOn, IsRunOf};
-ghost use Rattle.tta_tacrun.specs.Run.{is_over, steps_of, goes_quietly};
+ghost use Rattle.tta_tacrun.specs.Run.{Stands, IsAnswer, IsSilentRun, GoesOn, IsRunOf};
+ghost use Rattle.tta_tacrun.specs.Run.{is_over, steps_of, goes_silent};
 ghost use Rattle.tta_tacrun.specs.declared.answer.SeqStep.TheVariants.{Waiting};
 
 use crate::answer::SeqStep;
@@ -117,17 +117,17 @@ impl Seq {
     /// Carries out so many steps of the program that was loaded, or as many as there are until one
     /// outputs or takes a word, begins or ends a call, or ends the run. It answers how many it
     /// carried out, which may be none. It takes no memory.
-    pub fn go_on(&mut self, p: &Program, units: &UnitSet, most: u64) -> u64
+    pub fn run_silent(&mut self, p: &Program, units: &UnitSet, most: u64) -> u64
         requires loaded { IsRunOf p.now self.old }
         requires few { self.old.steps + most < 2 ^ 62 }
         ensures loaded { IsRunOf p.now self.new }
         ensures space { length self.new.memory ≡ length self.old.memory }
         ensures within { result ≤ most }
         ensures stops { result < most → self.new.outcome ≡ Running
-            → goes_quietly p.now self.new.stack ≡ false }
+            → goes_silent p.now self.new.stack ≡ false }
         ensures counted { self.new.steps ≡ self.old.steps + result }
         ensures next { let U = stated unit_meaning units.now in (s : State)
-            → Stands self.old s → IsQuiet self.new s (iterate result (next U p.now) s) }
+            → Stands self.old s → IsSilentRun self.new s (iterate result (next U p.now) s) }
     {
         match self.phase {
             Phase::Running => {}
@@ -140,7 +140,7 @@ impl Seq {
         };
         let basis = Basis { p, units };
         let (memory, relations) = (&mut self.memory, &mut self.relations);
-        let made = self.calls.go_on(memory, relations, &basis, flat, most);
+        let made = self.calls.run_silent(memory, relations, &basis, flat, most);
         self.steps += made;
         made
     }

@@ -31,7 +31,7 @@ pub use Rattle.tta_net_command.specs.Request.{is_net, rounds_of}
 pub use Rattle.tta_ops.specs.Set.{stated}
 pub use Rattle.tta_ops.specs.Units.{Units}
 pub use Rattle.tta_ports.specs.Files.{Holds}
-pub use Rattle.tta_ports.specs.Output.{IsCut, IsPut, IsQuiet, Output}
+pub use Rattle.tta_ports.specs.Output.{IsCut, IsPut, NothingOutput, Output}
 pub use Rattle.tta_ports.specs.Store.{Store}
 pub use Rattle.tta_ports.specs.World.{IsUntouched, World}
 pub use Rattle.tta_report.specs.Lines.{lines_text, word_lines}

@@ -1,6 +1,6 @@
 -- What the command `debug` does, and why it does not.
 use Rattle.std.specs.Prelude.{◌≡◌, ◌≤◌, ◌⊎◌, ℕ, false, List, [], length, Option, Result, Ok, Err}
-use Rattle.tta_tool.specs.Cited.{Store, Holds, World, IsUntouched, Output, IsQuiet, IsPut, IsCut, Units, Machine, Whole, Fault, code_at, is_fault, Debugged, Status, IsHeld, ReadFails, FileFails, limit, IsImageFor, RefusesImage, Fills, RefusesInput, HasInput, IsStream, HasStream, StreamFails, HasPair, PairFails}
+use Rattle.tta_tool.specs.Cited.{Store, Holds, World, IsUntouched, Output, NothingOutput, IsPut, IsCut, Units, Machine, Whole, Fault, code_at, is_fault, Debugged, Status, IsHeld, ReadFails, FileFails, limit, IsImageFor, RefusesImage, Fills, RefusesInput, HasInput, IsStream, HasStream, StreamFails, HasPair, PairFails}
 use Rattle.tta_code.specs.Cycle.{Outcome}
 use Rattle.tta_debug.specs.Debugged.{session as replies_of}
 use Rattle.tta_debug.specs.Scripts.{lines_of}
@@ -43,14 +43,14 @@ abbrev pub SessionEnds : (said : List ℕ × Debugged) → (old new : Output) �
 SessionEnds said old new status.Ok = (is_fault said.1.state.outcome ≡ false) × IsPut said.0 old new
 SessionEnds said old new (status.MachineFault code cycle) = (said.1.state.outcome ≡ Fault code cycle) × IsPut said.0 old new
 SessionEnds said old new status.WriteFault = IsCut said.0 old new
-SessionEnds said old new status.NoMemory = IsQuiet old new
+SessionEnds said old new status.NoMemory = NothingOutput old new
 SessionEnds said old new other = ⊥
 
 -- Code is known. Either what a session over it is asked is not read, and nothing is put, or no file is touched and the session
 -- ends so.
 abbrev pub AskedRuns : Units → Machine → Whole → (IN SCRIPT : List ℕ) → (STREAM : Option (List ℕ)) → (before after : World) → (old new : Output) → Status → Type 0
 AskedRuns u m whole IN SCRIPT STREAM before after old new s =
-    (AskedFails m.data_words IN SCRIPT STREAM before after s × IsQuiet old new)
+    (AskedFails m.data_words IN SCRIPT STREAM before after s × NothingOutput old new)
     ⊎ ((asked : HasAsked m.data_words before.contents IN SCRIPT STREAM)
     × IsUntouched before after × SessionEnds (said u m whole asked.input.value asked.script.bytes asked.stream.words) old new s)
 
@@ -58,7 +58,7 @@ AskedRuns u m whole IN SCRIPT STREAM before after old new s =
 -- Nothing is put but by a session: all of its replies, or a prefix of them where a put has failed.
 abbrev pub Debugs : Units → (M IMG IN SCRIPT : List ℕ) → (STREAM : Option (List ℕ)) → (before after : World) → (old new : Output) → Status → Type 0
 Debugs u M IMG IN SCRIPT STREAM before after old new s =
-    (PairFails u RefusesImage M IMG before after s × IsQuiet old new)
+    (PairFails u RefusesImage M IMG before after s × NothingOutput old new)
     ⊎ ((pair : HasPair u IsImageFor before.contents M IMG)
     × AskedRuns u pair.machine.value.machine pair.second.value IN SCRIPT STREAM before after old new s)
 

@@ -1,6 +1,6 @@
 -- How a command that runs something reports.
 use Rattle.std.specs.Prelude.{◌≡◌, ℕ, List}
-use Rattle.tta_tool.specs.Cited.{Output, IsQuiet, IsPut, IsCut, Ended, Status}
+use Rattle.tta_tool.specs.Cited.{Output, NothingOutput, IsPut, IsCut, Ended, Status}
 use Rattle.tta_run.specs.declared.ended.Ended.TheVariants as ended
 use Rattle.tta_load.specs.declared.status.Status.TheVariants as status
 
@@ -11,5 +11,5 @@ ReportEnds text end old new status.Running = (end ≡ ended.Running) × IsPut te
 ReportEnds text end old new status.Waiting = (end ≡ ended.Waiting) × IsPut text old new
 ReportEnds text end old new (status.MachineFault number cycle) = (end ≡ ended.Fault number cycle) × IsPut text old new
 ReportEnds text end old new status.WriteFault = IsCut text old new
-ReportEnds text end old new status.NoMemory = IsQuiet old new
+ReportEnds text end old new status.NoMemory = NothingOutput old new
 ReportEnds text end old new s = ⊥

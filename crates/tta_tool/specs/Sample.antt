@@ -1,6 +1,6 @@
 -- What the command `sample` does, and why it does not.
 use Rattle.std.specs.Prelude.{◌≡◌, ◌⊎◌, ℕ, ◌≤◌, ◌+◌, ◌*◌, Bool, true, false, List, [], ◌∷◌, length, replicate}
-use Rattle.tta_tool.specs.Cited.{World, IsUntouched, Output, IsQuiet, IsPut, IsCut, Line, lines_text, Units, Machine, Program, step_count, sample_text, Whole, program_at, code_at, HaltAlike, IsBuilt, Status, HasMachine, MachineFails, IsProgramIn, RefusesProgram}
+use Rattle.tta_tool.specs.Cited.{World, IsUntouched, Output, NothingOutput, IsPut, IsCut, Line, lines_text, Units, Machine, Program, step_count, sample_text, Whole, program_at, code_at, HaltAlike, IsBuilt, Status, HasMachine, MachineFails, IsProgramIn, RefusesProgram}
 use Rattle.tta_report.specs.declared.line.Line.TheVariants as line
 use Rattle.tta_program.specs.Sequential as program
 use Rattle.tta_code.specs.Cycle as cycle
@@ -53,29 +53,29 @@ abbrev pub CompareEnds : Units → Machine → Program → Whole → (bound : �
 CompareEnds u m p whole bound old new status.Ok = CodeCompared u m p whole bound (λ text. IsPut text old new)
 CompareEnds u m p whole bound old new status.WriteFault = CodeCompared u m p whole bound (λ text. IsCut text old new)
 CompareEnds u m p whole bound old new status.Running =
-    ((program_after u p m.data_words bound).outcome ≡ program.Running) × IsQuiet old new
+    ((program_after u p m.data_words bound).outcome ≡ program.Running) × NothingOutput old new
 CompareEnds u m p whole bound old new status.Waiting =
-    ((program_after u p m.data_words bound).outcome ≡ program.Waiting) × IsQuiet old new
-CompareEnds u m p whole bound old new status.NoMemory = IsQuiet old new
+    ((program_after u p m.data_words bound).outcome ≡ program.Waiting) × NothingOutput old new
+CompareEnds u m p whole bound old new status.NoMemory = NothingOutput old new
 CompareEnds u m p whole bound old new s = ⊥
 
 -- How the command ends where a program was read: no code is built for it, for a cause; or it is built and compared with the
 -- program.
 abbrev pub CompileEnds : Units → Machine → Program → (bound : ℕ) → (old new : Output) → Status → Type 0
 CompileEnds u m p bound old new s =
-    (IsCauseOf false u m p s × IsQuiet old new) ⊎ ((whole : Whole) × IsBuilt u m p whole × CompareEnds u m p whole bound old new s)
+    (IsCauseOf false u m p s × NothingOutput old new) ⊎ ((whole : Whole) × IsBuilt u m p whole × CompareEnds u m p whole bound old new s)
 
 -- The same where a machine was read: the sample's text is refused for its data space, or it is that of a program.
 abbrev pub SampleForEnds : Units → Machine → (seed lines : ℕ) → (old new : Output) → Status → Type 0
 SampleForEnds u m seed lines old new s =
-    (RefusesProgram u m.data_words (sample_text seed lines) s × IsQuiet old new)
+    (RefusesProgram u m.data_words (sample_text seed lines) s × NothingOutput old new)
     ⊎ ((p : Program) × IsProgramIn u m.data_words (sample_text seed lines) p × CompileEnds u m p (step_bound lines) old new s)
 
 -- How `sample SEED LINES M` ends. The machine is word 3. Each ending but out of memory comes only where its cause holds. Nothing is put
 -- but the summary, or a prefix of it where a put has failed; and a summary says that both runs are equal.
 abbrev pub Samples : Units → (seed lines : ℕ) → (M : List ℕ) → (before after : World) → (old new : Output) → Status → Type 0
 Samples u seed lines M before after old new s =
-    (MachineFails u M 3 before after s × IsQuiet old new)
+    (MachineFails u M 3 before after s × NothingOutput old new)
     ⊎ ((m : HasMachine u before.contents M) × IsUntouched before after × SampleForEnds u m.value.machine seed lines old new s)
 
 -- ---- the command's parts

@@ -78,8 +78,8 @@ impl<'a> Run for ProgramRun<'a> {
     }
 
     #[inline(always)]
-    fn go_on(&mut self, units: &UnitSet, most: u64) -> u64 {
-        self.seq.go_on(self.program, units, most)
+    fn run_silent(&mut self, units: &UnitSet, most: u64) -> u64 {
+        self.seq.run_silent(self.program, units, most)
     }
 
     fn ended(&self) -> Ended {

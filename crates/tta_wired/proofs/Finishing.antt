@@ -12,7 +12,7 @@ use Rattle.tta_hardware.specs.Signals.{Signal as Named, HasHalted, IsReset, Give
 use Rattle.tta_hardware.specs.Stands.{is_halted}
 use Rattle.tta_hardware.proofs.Circuits.{is_settled}
 use Rattle.tta_kahn.specs.declared.cores.Core.{Core}
-use Rattle.tta_kahn.specs.Network.{Joined}
+use Rattle.tta_kahn.specs.Network.{NetworkCore}
 use Rattle.tta_kahn.specs.Cluster.{cluster_given, output_given, IsRestGiven}
 use Rattle.tta_kahn.specs.Laws.{IsCore}
 use Rattle.tta_kahn.proofs.Orders.{cores_compare}
@@ -45,7 +45,7 @@ module _ (u : Units) (cores : List Core) (feeds : List (Option ℕ)) (takes_word
   abbrev steps : List ℕ
   steps = made.0
 
-  abbrev among : List (Joined State)
+  abbrev among : List (NetworkCore State)
   among = cluster_given u cores feeds given spaces steps
 
   abbrev came : ℕ → List ℕ
@@ -111,7 +111,7 @@ module _ (u : Units) (cores : List Core) (feeds : List (Option ℕ)) (takes_word
     by None none = absurd (let e : None ≡ Some j = sym (made.1.run.stand.none core none) ∙ at in cc)
     by (Some c) there =
         takes core c there
-        (subst (λ (x : Joined State). has_word_to_put u cores feeds came k among core x ≡ true)
+        (subst (λ (x : NetworkCore State). has_word_to_put u cores feeds came k among core x ≡ true)
         (same_Some j (made.1.run.stand.each core c there).now (sym at ∙ (made.1.run.stand.each core c there).there)) has)
 
   room : HaltedHaveRoom u cores feeds came k among
@@ -120,7 +120,7 @@ module _ (u : Units) (cores : List Core) (feeds : List (Option ℕ)) (takes_word
     by None none = absurd (let e : None ≡ Some j = sym (made.1.run.stand.none core none) ∙ at in cc)
     by (Some c) there =
         has_space core c there
-        (subst (λ (x : Joined State). is_halted x.state.outcome ≡ true)
+        (subst (λ (x : NetworkCore State). is_halted x.state.outcome ≡ true)
         (same_Some j (made.1.run.stand.each core c there).now (sym at ∙ (made.1.run.stand.each core c there).there)) halted)
 
   -- all that a core is given has come to its queue
@@ -133,7 +133,7 @@ module _ (u : Units) (cores : List Core) (feeds : List (Option ℕ)) (takes_word
         t
         ∙ whole core (slice_get_within cores core c there) unfed
         (ap is_set (sym ((clocks.joined t).of_core core c there).1.0) ∙ halted_is core c there
-        ∙ ap (λ (x : Joined State). is_halted x.state.outcome)
+        ∙ ap (λ (x : NetworkCore State). is_halted x.state.outcome)
         (same_Some (made.1.run.stand.each core c there).now j (sym (made.1.run.stand.each core c there).there ∙ at)) ∙ goes_on)
 
   rest : IsRestGiven u cores feeds given spaces steps

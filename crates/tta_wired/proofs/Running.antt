@@ -18,7 +18,7 @@ use Rattle.tta_hardware.proofs.Circuits.{is_settled, reset_is}
 use Rattle.tta_hardware.proofs.Pins.{streams_apart}
 use Rattle.tta_queue.specs.Queue as queue
 use Rattle.tta_kahn.specs.declared.cores.Core.{Core}
-use Rattle.tta_kahn.specs.Network.{Joined}
+use Rattle.tta_kahn.specs.Network.{NetworkCore}
 use Rattle.tta_kahn.specs.Cluster.{cluster_given}
 use Rattle.tta_kahn.specs.Laws.{IsCore}
 use Rattle.tta_joint.specs.Joint.{seen, new_words}
@@ -183,7 +183,7 @@ module _ (u : Units) (cores : List Core) (feeds : List (Option ℕ)) (takes : �
         less : last < t
         less = ltb-true last t late
 
-        joined : List (Joined State)
+        joined : List (NetworkCore State)
         joined = cluster_given u cores feeds given spaces (run t less have).0
 
         s : StandsAmong u cores feeds memories k (board t) joined core c
@@ -255,7 +255,7 @@ module _ (u : Units) (cores : List Core) (feeds : List (Option ℕ)) (takes : �
           let s = (run t less have).1.stand.each core c there in
           ap is_set (sym ((clocks.joined t).of_core core c there).1.0)
           ∙ ap is_set (is_settled u c.machine c.code (memories core) ((board t).cores core) ((i t).cores core)).halted ∙ s.stands.halted
-          ∙ ap (λ (j : Joined State). is_halted j.state.outcome) (same_Some s.now now (sym s.there ∙ among));
+          ∙ ap (λ (j : NetworkCore State). is_halted j.state.outcome) (same_Some s.now now (sym s.there ∙ among));
     },
   )
 

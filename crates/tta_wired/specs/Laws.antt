@@ -7,7 +7,7 @@ use Rattle.tta_code.specs.Cycle.{State}
 use Rattle.tta_circuit.specs.Meaning.{is_set}
 use Rattle.tta_hardware.specs.Stands.{is_halted}
 use Rattle.tta_kahn.specs.declared.cores.Core.{Core}
-use Rattle.tta_kahn.specs.Network.{Joined}
+use Rattle.tta_kahn.specs.Network.{NetworkCore}
 use Rattle.tta_kahn.specs.Cited.{AreWords}
 use Rattle.tta_kahn.specs.Cluster.{cluster_given, output_given}
 use Rattle.tta_kahn.specs.Programs.{IsGroupRest, group_output}
@@ -33,7 +33,7 @@ pub record HasRunAsNet (u : Units) (cores : List Core) (feeds : List (Option ℕ
   pub run : HasRun u cores feeds given memories spaces k powers i t steps
   pub passed : (core : ℕ) (c : Core) → slice_get cores core ≡ Some c
       → passed_by u cores feeds takes memories k powers i signals core t ≡ output_given u cores feeds given spaces steps core
-  pub halted : (core : ℕ) (c : Core) (now : Joined State) → slice_get cores core ≡ Some c
+  pub halted : (core : ℕ) (c : Core) (now : NetworkCore State) → slice_get cores core ≡ Some c
       → slice_get (cluster_given u cores feeds given spaces steps) core ≡ Some now
       → is_set (signals t (Halted core)) ≡ is_halted now.state.outcome
 

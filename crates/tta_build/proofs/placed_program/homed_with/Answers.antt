@@ -1,6 +1,6 @@
 use Rattle.std.proofs.Common.{ℕ, List, sym, ap, subst}
 use Rattle.std.proofs.lemmas.Result.{IfOk-at_ok}
-use Rattle.tta_build.specs.Cited.{stated, Machine, AreAllotted, Rir, BlockList, selected}
+use Rattle.tta_build.specs.Cited.{stated, Machine, SlotsAsScanned, Rir, BlockList, selected}
 use Rattle.tta_lower.specs.Statement.{IsCodeOf}
 use Rattle.tta_build.specs.declared.best_candidate.Planned.{Planned}
 use Rattle.tta_build.specs.Placing.{ArePlanned}
@@ -9,7 +9,7 @@ use Rattle.tta_build.proofs.placed_program.homed_with.Goals as goal
 
 pub lower-requires-clause-homes : goal.lower-requires-clause-homes
 lower-requires-clause-homes g c =
-    subst (λ (n : ℕ). AreAllotted c.args.p.now n c.args.homes) (sym c.requires.kept.count) c.requires.kept
+    subst (λ (n : ℕ). SlotsAsScanned c.args.p.now n c.args.homes) (sym c.requires.kept.count) c.requires.kept
 
 pub select-requires-clause-fits : goal.select-requires-clause-fits
 select-requires-clause-fits g c =

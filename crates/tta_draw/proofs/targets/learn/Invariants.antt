@@ -1,5 +1,5 @@
 use Rattle.std.proofs.Common.{◌≡◌, ◌++◌, drop, take, length}
-use Rattle.tta_draw.specs.Known.{learned}
+use Rattle.tta_draw.specs.ImmediateWord.{learned}
 use Rattle.tta_draw.proofs.targets.learn.Given as goal
 
 abbrev pub invariant-loop-place : goal.invariant-loop-place

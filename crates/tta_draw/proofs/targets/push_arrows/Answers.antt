@@ -1,6 +1,6 @@
 use Rattle.std.proofs.Common.{ℕ, ◌+◌, ◌++◌, length, take, ap, ◌∙◌}
 use Rattle.tta_arch.proofs.CodeLists.{pieces_more}
-use Rattle.tta_draw.specs.Known.{known_word}
+use Rattle.tta_draw.specs.ImmediateWord.{known_word}
 use Rattle.tta_draw.specs.Targets.{arrow_at, arrow_to, nearest_word, target_of}
 use Rattle.tta_draw.proofs.Knowing.{target-same, knows-more}
 use Rattle.tta_draw.proofs.targets.push_arrows.Goals as goal

@@ -1,5 +1,5 @@
 use Rattle.std.proofs.Common.{◌≡◌, drop}
-use Rattle.tta_draw.specs.Known.{known_word}
+use Rattle.tta_draw.specs.ImmediateWord.{known_word}
 use Rattle.tta_draw.proofs.targets.word_of.Given as goal
 
 abbrev pub invariant-loop-k : goal.invariant-loop-k

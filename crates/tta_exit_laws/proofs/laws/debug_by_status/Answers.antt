@@ -1,5 +1,5 @@
 use Rattle.std.proofs.Common.{◌≡◌, ◌↔◌, ℕ, List, Option, inl, inr}
-use Rattle.tta_exit_laws.specs.Cited.{World, IsUntouched, Output, IsQuiet, Units, Status, HasText, ReadFails, ReadFailed, HasMachine, RefusesMachine, IsImageFor, RefusesImage, RefusesInput, RefusesStream, HasPair, OfNamed, HasThree, HasBytes, HasAsked, said, Debugs}
+use Rattle.tta_exit_laws.specs.Cited.{World, IsUntouched, Output, NothingOutput, Units, Status, HasText, ReadFails, ReadFailed, HasMachine, RefusesMachine, IsImageFor, RefusesImage, RefusesInput, RefusesStream, HasPair, OfNamed, HasThree, HasBytes, HasAsked, said, Debugs}
 use Rattle.tta_load.specs.declared.status.Status.TheVariants as status
 use Rattle.tta_load.specs.Held.{IsTooLong}
 use Rattle.tta_load.proofs.Stages.{none, pair_stages, pair_at}
@@ -11,17 +11,17 @@ use Rattle.tta_exit_laws.proofs.laws.debug_by_status.Goals as goal
 module _ (u : Units) (M IMG IN SCRIPT : List ℕ) (STREAM : Option (List ℕ)) (before after : World) (old new : Output) where
   -- the stages at which the command can end
   of : (s : Status) (G : Type 0)
-      → (ReadFails M 1 before after s → IsQuiet old new → G)
-      → (IsUntouched before after × HasText before.contents M (λ text. RefusesMachine u text s) → IsQuiet old new → G)
-      → (HasMachine u before.contents M → ReadFails IMG 2 before after s → IsQuiet old new → G)
-      → ((m : HasMachine u before.contents M) → IsUntouched before after × HasText before.contents IMG (λ bytes. RefusesImage m.value bytes s) → IsQuiet old new → G)
-      → (HasPair u IsImageFor before.contents M IMG → ReadFails IN 3 before after s → IsQuiet old new → G)
+      → (ReadFails M 1 before after s → NothingOutput old new → G)
+      → (IsUntouched before after × HasText before.contents M (λ text. RefusesMachine u text s) → NothingOutput old new → G)
+      → (HasMachine u before.contents M → ReadFails IMG 2 before after s → NothingOutput old new → G)
+      → ((m : HasMachine u before.contents M) → IsUntouched before after × HasText before.contents IMG (λ bytes. RefusesImage m.value bytes s) → NothingOutput old new → G)
+      → (HasPair u IsImageFor before.contents M IMG → ReadFails IN 3 before after s → NothingOutput old new → G)
       → ((pair : HasPair u IsImageFor before.contents M IMG)
-      → IsUntouched before after × HasText before.contents IN (λ bytes. RefusesInput pair.machine.value.machine.data_words bytes s) → IsQuiet old new → G)
-      → (HasThree u IsImageFor before.contents M IMG IN → ReadFails SCRIPT 4 before after s → IsQuiet old new → G)
-      → (HasThree u IsImageFor before.contents M IMG IN → HasBytes before.contents SCRIPT → OfNamed STREAM (λ name. ReadFails name 5 before after s) → IsQuiet old new → G)
+      → IsUntouched before after × HasText before.contents IN (λ bytes. RefusesInput pair.machine.value.machine.data_words bytes s) → NothingOutput old new → G)
+      → (HasThree u IsImageFor before.contents M IMG IN → ReadFails SCRIPT 4 before after s → NothingOutput old new → G)
+      → (HasThree u IsImageFor before.contents M IMG IN → HasBytes before.contents SCRIPT → OfNamed STREAM (λ name. ReadFails name 5 before after s) → NothingOutput old new → G)
       → (HasThree u IsImageFor before.contents M IMG IN → HasBytes before.contents SCRIPT → IsUntouched before after
-      → OfNamed STREAM (λ name. HasText before.contents name (λ bytes. RefusesStream bytes s)) → IsQuiet old new → G)
+      → OfNamed STREAM (λ name. HasText before.contents name (λ bytes. RefusesStream bytes s)) → NothingOutput old new → G)
       → ((pair : HasPair u IsImageFor before.contents M IMG) (asked : HasAsked pair.machine.value.machine.data_words before.contents IN SCRIPT STREAM) → IsUntouched before after
       → SessionEnds (said u pair.machine.value.machine pair.second.value asked.input.value asked.script.bytes asked.stream.words) old new s → G)
       → Debugs u M IMG IN SCRIPT STREAM before after old new s → G
@@ -35,7 +35,7 @@ module _ (u : Units) (M IMG IN SCRIPT : List ℕ) (STREAM : Option (List ℕ)) (
 
   -- a file that is at fault
   at_fault : (s : Status) (Fault : List ℕ → Type 0) (word : ℕ) → ((k : ℕ) (n : List ℕ) → (word ≡ k) × Fault n → ReadFails n k before after s)
-      → IsQuiet old new → SessionFault u before.contents M IMG IN SCRIPT STREAM Fault word → Debugs u M IMG IN SCRIPT STREAM before after old new s
+      → NothingOutput old new → SessionFault u before.contents M IMG IN SCRIPT STREAM Fault word → Debugs u M IMG IN SCRIPT STREAM before after old new s
   at_fault s Fault word at quiet (inl a) = inl (pair_at u RefusesImage M IMG before after s Fault word at a, quiet)
   at_fault s Fault word at quiet (inr (inl a)) = inr (a.1, inl (inl (inl (at 3 IN (a.0, a.2))), quiet))
   at_fault s Fault word at quiet (inr (inr (inl a))) = inr (a.1.0, inl (inr (a.1.1, inl (at 4 SCRIPT (a.0, a.2))), quiet))

@@ -1,5 +1,5 @@
 use Rattle.std.proofs.Common.{◌↔◌, ℕ, false, List, inl, inr}
-use Rattle.tta_exit_laws.specs.Cited.{World, IsUntouched, Output, IsQuiet, Units, sample_text, Whole, IsBuilt, Status, HasText, ReadFails, HasMachine, RefusesMachine, IsProgramIn, RefusesProgram, IsCauseOf, step_bound, CompareEnds, Samples}
+use Rattle.tta_exit_laws.specs.Cited.{World, IsUntouched, Output, NothingOutput, Units, sample_text, Whole, IsBuilt, Status, HasText, ReadFails, HasMachine, RefusesMachine, IsProgramIn, RefusesProgram, IsCauseOf, step_bound, CompareEnds, Samples}
 use Rattle.tta_program.specs.Program.{Program}
 use Rattle.tta_load.specs.declared.status.Status.TheVariants as status
 use Rattle.tta_load.proofs.Stages.{none}
@@ -9,11 +9,11 @@ use Rattle.tta_exit_laws.proofs.laws.sample_by_status.Goals as goal
 module _ (u : Units) (seed lines : ℕ) (M : List ℕ) (before after : World) (old new : Output) where
   -- the stages at which the command can end
   of : (s : Status) (G : Type 0)
-      → (ReadFails M 3 before after s → IsQuiet old new → G)
-      → (IsUntouched before after × HasText before.contents M (λ text. RefusesMachine u text s) → IsQuiet old new → G)
-      → ((m : HasMachine u before.contents M) → IsUntouched before after → RefusesProgram u m.value.machine.data_words (sample_text seed lines) s → IsQuiet old new → G)
+      → (ReadFails M 3 before after s → NothingOutput old new → G)
+      → (IsUntouched before after × HasText before.contents M (λ text. RefusesMachine u text s) → NothingOutput old new → G)
+      → ((m : HasMachine u before.contents M) → IsUntouched before after → RefusesProgram u m.value.machine.data_words (sample_text seed lines) s → NothingOutput old new → G)
       → ((m : HasMachine u before.contents M) → IsUntouched before after → (p : Program) → IsProgramIn u m.value.machine.data_words (sample_text seed lines) p
-      → IsCauseOf false u m.value.machine p s → IsQuiet old new → G)
+      → IsCauseOf false u m.value.machine p s → NothingOutput old new → G)
       → ((m : HasMachine u before.contents M) → IsUntouched before after → (p : Program) → IsProgramIn u m.value.machine.data_words (sample_text seed lines) p
       → (whole : Whole) → IsBuilt u m.value.machine p whole → CompareEnds u m.value.machine p whole (step_bound lines) old new s → G)
       → Samples u seed lines M before after old new s → G

@@ -1,5 +1,5 @@
 use Rattle.std.proofs.Common.{◌≡◌, ◌↔◌, ℕ, List, Some, refl, subst, inl, inr}
-use Rattle.tta_inspect.specs.Cited.{World, IsUntouched, Output, IsQuiet, IsPut, IsCut, Units, Status, HasText, ReadFails, no_memory, HasMachine, RefusesMachine, TextEnds}
+use Rattle.tta_inspect.specs.Cited.{World, IsUntouched, Output, NothingOutput, IsPut, IsCut, Units, Status, HasText, ReadFails, no_memory, HasMachine, RefusesMachine, TextEnds}
 use Rattle.tta_load.specs.declared.status.Status.TheVariants as status
 use Rattle.tta_load.proofs.Stages.{none}
 use Rattle.tta_inspect.specs.declared.view.View.{View}
@@ -11,8 +11,8 @@ use Rattle.tta_inspect.proofs.laws.machine_by_status.Goals as goal
 module _ (u : Units) (view : View) (M : List ℕ) (before after : World) (old new : Output) where
   -- the stages at which the command can end
   of : (s : Status) (G : Type 0)
-      → (ReadFails M 1 before after s → IsQuiet old new → G)
-      → (IsUntouched before after × HasText before.contents M (λ text. RefusesMachine u text s) → IsQuiet old new → G)
+      → (ReadFails M 1 before after s → NothingOutput old new → G)
+      → (IsUntouched before after × HasText before.contents M (λ text. RefusesMachine u text s) → NothingOutput old new → G)
       → ((m : HasMachine u before.contents M) → IsUntouched before after
       → TextEnds (λ text. text ≡ machine_view u view m.value) no_memory old new s → G)
       → Ends u (Some (OfMachine view M)) before after old new s → G

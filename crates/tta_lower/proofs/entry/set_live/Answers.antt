@@ -1,5 +1,5 @@
 use Rattle.std.proofs.Common.{◌∙◌, arith}
-use Rattle.tta_lower.specs.Known.{first_by}
+use Rattle.tta_lower.specs.LoweringInput.{first_by}
 use Rattle.tta_lower.specs.Plan.{homes_in}
 use Rattle.tta_lower.specs.Layout.{vars_of}
 use Rattle.tta_lower.proofs.Rows.{sets_more}

@@ -1,5 +1,5 @@
 use Rattle.std.proofs.Common.{◌≡◌, ◌++◌, ◌-◌}
-use Rattle.tta_lower.specs.Known.{first_by}
+use Rattle.tta_lower.specs.LoweringInput.{first_by}
 use Rattle.tta_lower.specs.Plan.{homes_in}
 use Rattle.tta_lower.specs.Layout.{sets_from, vars_of}
 use Rattle.tta_lower.proofs.entry.set_live.Given as goal

@@ -1,5 +1,5 @@
 use Rattle.std.proofs.Common.{◌<◌, ◌∙◌, arith}
-use Rattle.tta_lower.specs.Known.{first_by}
+use Rattle.tta_lower.specs.LoweringInput.{first_by}
 use Rattle.tta_lower.proofs.Facts.{span-is}
 use Rattle.tta_lower.proofs.Split.{row-read, row-spans, main-first, others-more, others-none}
 use Rattle.tta_lower.proofs.parts.all_parts.Goals as goal

@@ -1,5 +1,5 @@
 use Rattle.std.proofs.Common.{◌≡◌, ◌++◌}
-use Rattle.tta_lower.specs.Known.{first_by}
+use Rattle.tta_lower.specs.LoweringInput.{first_by}
 use Rattle.tta_lower.specs.Lower.{parts}
 use Rattle.tta_lower.proofs.Split.{others_from}
 use Rattle.tta_lower.proofs.parts.all_parts.Given as goal

@@ -1,6 +1,6 @@
 use Rattle.std.proofs.Common.{◌≡◌, ◌-◌}
 use Rattle.std.specs.List.{list_any}
-use Rattle.tta_lower.specs.Known.{first_by}
+use Rattle.tta_lower.specs.LoweringInput.{first_by}
 use Rattle.tta_lower.specs.Layout.{vars_of}
 use Rattle.tta_lower.specs.Lower.{numbers}
 use Rattle.tta_lower.proofs.parts.is_any_live.Given as goal

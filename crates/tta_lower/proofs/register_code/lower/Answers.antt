@@ -1,7 +1,7 @@
 use Rattle.std.proofs.Common.{◌∙◌, ap, List}
 use Rattle.tta_flow.specs.declared.flow.Block.{Block}
 use Rattle.tta_lower.specs.Cited.{count_of}
-use Rattle.tta_lower.specs.Known.{known_by}
+use Rattle.tta_lower.specs.LoweringInput.{known_by}
 use Rattle.tta_lower.specs.Lower.{lowered}
 use Rattle.tta_lower.proofs.Standing.{code-of}
 use Rattle.tta_lower.proofs.register_code.lower.Goals as goal

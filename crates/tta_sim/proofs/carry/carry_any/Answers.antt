@@ -45,19 +45,19 @@ begin_all-requires-clause-can g c =
     let dues_are = c.as_slice.ensures ∙ c.note_results.ensures ∙ ap (filter_map (shown_from U c.unwrap_or-word.result store)) c.as_slice-starts.ensures in
     left_can U c.unwrap_or-word.result store r c.args.line.now _ _ c.requires.fitting has dues_are
 
-pub go_on-requires-clause-writes : goal.go_on-requires-clause-writes
-go_on-requires-clause-writes g c =
+pub finish_cycle-requires-clause-writes : goal.finish_cycle-requires-clause-writes
+finish_cycle-requires-clause-writes g c =
     subst (AllByRecursion (λ w. w.place < 609)) (sym (c.as_slice-2.ensures ∙ (c.find_fault.ensures.left c.in_default.is).writes))
     (written_within _ c.args.run.now.store c.of-results.result c.args.line.now c.requires.there)
 
-pub go_on-requires-clause-few : goal.go_on-requires-clause-few
-go_on-requires-clause-few g c = omega (arith, c.requires.few, c.put_all-put.ensures.cycle)
+pub finish_cycle-requires-clause-few : goal.finish_cycle-requires-clause-few
+finish_cycle-requires-clause-few g c = omega (arith, c.requires.few, c.put_all-put.ensures.cycle)
 
 pub advance-requires-clause-within : goal.advance-requires-clause-within
 advance-requires-clause-within g c = omega (arith, c.requires.within)
 
 pub advance-requires-clause-few : goal.advance-requires-clause-few
-advance-requires-clause-few g c = omega (arith, c.requires.few, c.go_on.ensures.cycle, c.put_all-put.ensures.cycle)
+advance-requires-clause-few g c = omega (arith, c.requires.few, c.finish_cycle.ensures.cycle, c.put_all-put.ensures.cycle)
 
 -- ---- a cycle that faults
 
@@ -121,25 +121,25 @@ returns g c = record {
       let others = c.put_all-put.ensures.frame ∙ ap (fold store_frame store.frame.items) starts_are in
       let controls = c.acting_in-acting.ensures ∙ ap (λ r. first_some (control_brought store.places (shown_by r)) line.controls) c.of-results.ensures in
       carried_at U m decoded.rules i decoded.legal lines store r c.args.run.now.control s size same
-      none c.requires.running c.go_on.new.store (results_at c.args.context.now.part c.begin_all.new.region) c.advance.new.self brought begins c.put_all-put.result _ c.args.next c.any_takes-took.result fed took_is
+      none c.requires.running c.finish_cycle.new.store (results_at c.args.context.now.part c.begin_all.new.region) c.advance.new.self brought begins c.put_all-put.result _ c.args.next c.any_takes-took.result fed took_is
       (sym c.is_stuck.ensures ∙ c.if-is_stuck.false) refl refl back _ _ refl delay refl
       (λ ws had.
-      subst (HasWritten c.go_on.new.store.places) (append_assoc (filter_map (write_of m back) (map brought_of brought)) (long_writes m i.long) ws)
-      (c.go_on.ensures.written _ ws (c.as_slice-2.ensures ∙ left.writes) (placed m decoded.rules i decoded.legal back line decoded.line store.places r p)
+      subst (HasWritten c.finish_cycle.new.store.places) (append_assoc (filter_map (write_of m back) (map brought_of brought)) (long_writes m i.long) ws)
+      (c.finish_cycle.ensures.written _ ws (c.as_slice-2.ensures ∙ left.writes) (placed m decoded.rules i decoded.legal back line decoded.line store.places r p)
       (subst (λ ps. HasWritten ps ws) (sym c.put_all-put.ensures.places) had)))
       begun
-      (c.go_on.ensures.cycle ∙ ap (λ n. n + 1) c.put_all-put.ensures.cycle)
-      (c.go_on.ensures.data ∙ words) (c.go_on.ensures.frame ∙ others) (c.put_all-put.ensures.put ∙ ap (λ ts. option_map (λ t. t.word) (find puts ts)) starts_are)
+      (c.finish_cycle.ensures.cycle ∙ ap (λ n. n + 1) c.put_all-put.ensures.cycle)
+      (c.finish_cycle.ensures.data ∙ words) (c.finish_cycle.ensures.frame ∙ others) (c.put_all-put.ensures.put ∙ ap (λ ts. option_map (λ t. t.word) (find puts ts)) starts_are)
       (controls ∙ acting_same m decoded.rules i decoded.legal back line decoded.line store.places r p) c.advance.ensures;
   takes = sym c.is_stuck.ensures ∙ c.if-is_stuck.false;
-  counted = c.go_on.ensures.cycle ∙ ap (λ n. n + 1) c.put_all-put.ensures.cycle;
-  memory = ap length (c.go_on.ensures.data ∙ c.put_all-put.ensures.data) ∙ length-stored c.args.run.now.store.memory.items c.as_slice-starts.result.now;
-  frame = ap length (c.go_on.ensures.frame ∙ c.put_all-put.ensures.frame) ∙ length-stored_frame c.args.run.now.store.frame.items c.as_slice-starts.result.now;
+  counted = c.finish_cycle.ensures.cycle ∙ ap (λ n. n + 1) c.put_all-put.ensures.cycle;
+  memory = ap length (c.finish_cycle.ensures.data ∙ c.put_all-put.ensures.data) ∙ length-stored c.args.run.now.store.memory.items c.as_slice-starts.result.now;
+  frame = ap length (c.finish_cycle.ensures.frame ∙ c.put_all-put.ensures.frame) ∙ length-stored_frame c.args.run.now.store.frame.items c.as_slice-starts.result.now;
   waits = λ lines is. cc;
   stays = λ is. cc;
   others = c.begin_all.ensures.others;
   words = record {
-    places = λ k some. c.go_on.ensures.grows k (ap (λ ps. is_some (slice_index_or ps k None)) c.put_all-put.ensures.places ∙ some);
+    places = λ k some. c.finish_cycle.ensures.grows k (ap (λ ps. is_some (slice_index_or ps k None)) c.put_all-put.ensures.places ∙ some);
     ports = c.begin_all.ensures.ports;
   };
 }

@@ -1,7 +1,7 @@
 use Rattle.std.proofs.Common.{ap}
 use Rattle.tta_code_run.specs.Cited.{stated}
 use Rattle.tta_code.specs.Cycle.{State, next}
-use Rattle.tta_sim.proofs.Silent.{fault_is_quiet}
+use Rattle.tta_sim.proofs.Silent.{fault_is_silent}
 use Rattle.tta_code_run.proofs.CodeCycles.{halted_stays, fault_stays}
 use Rattle.tta_code_run.proofs.code_run.CodeRunRun.go.Goals as goal
 
@@ -21,6 +21,6 @@ returns-in-Fault-clause-leaves g c = λ s stands fed.
     let fault = c.in-Fault.ensures.answer s stands fed in
     record {
       stands = c.in-Fault.ensures.next s stands fed;
-      output = (fault_is_quiet U m code s _ _ fault).output;
+      output = (fault_is_silent U m code s _ _ fault).output;
       stays = fault_stays U m code (next U m code s) _ _ fault;
     }

@@ -23,11 +23,11 @@ returns-clause-next g c = λ s same.
     let code = c.args.code.now in
     let run = subst (IsRunOf m code) (sym c.self.view_is) c.requires.loaded in
     let held = state_stands m code c.self.inside.state c.self.inside.region run.units s (subst (λ h. Stands h s) (sym c.self.view_is) same) in
-    let quiet = c.cycle_in_place.ensures.next s held in
+    let pure = c.cycle_in_place.ensures.next s held in
     record {
-      stands = own_stands m code c.cycle_in_place.new.self c.cycle_in_place.new.region (c.cycle_in_place.ensures.kept.units ∙ run.units) _ quiet.stands;
-      output = quiet.output;
-      rest = quiet.rest;
+      stands = own_stands m code c.cycle_in_place.new.self c.cycle_in_place.new.region (c.cycle_in_place.ensures.kept.units ∙ run.units) _ pure.stands;
+      output = pure.output;
+      rest = pure.rest;
     }
 
 pub cycle_in_place-requires-clause-own : goal.cycle_in_place-requires-clause-own
