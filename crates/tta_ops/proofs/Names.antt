@@ -1,5 +1,5 @@
 -- The first place of a name, in the words of the map that finds it.
-use Rattle.std.proofs.Common.{◌≡◌, ◌+◌, ◌++◌, ◌∷◌, [], ℕ, List, Option, Some, None, true, false, refl, sym, ap, subst, ◌∙◌, cond, position, option_map, slice_get}
+use Rattle.std.proofs.Common.{◌≡◌, ◌+◌, ◌++◌, ◌∷◌, [], ℕ, List, Option, Some, None, true, false, refl, sym, ap, subst, ◌∙◌, cond, map, position, option_map, slice_get}
 use Rattle.std.specs.Prelude.{if◌then◌else◌}
 use Rattle.std.specs.List.{position_from}
 use Rattle.std.specs.Str.{bytes_eq, IsUtf8}
@@ -19,7 +19,7 @@ use Rattle.std.proofs.lemmas.Slice.Eq.{bytes_eq-Decides}
 use Rattle.std.proofs.lemmas.Str.{IsUtf8-had}
 use Rattle.tta_ops.specs.declared.place.Place.{Place}
 use Rattle.tta_ops.specs.Units.{first_at}
-use Rattle.tta_ops.specs.Row.{Row, names_of}
+use Rattle.tta_ops.specs.Row.{Row, names_of, place_of}
 use Rattle.tta_ops.specs.Entries.{rows_of}
 
 first_at-position_from : (name : List ℕ) (k : ℕ) (entries : List (String Global × Place))
@@ -73,10 +73,38 @@ lookup-none name k (e ∷ es) absent =
       | false ↦ λ other none. rw (sym turned ∙ other) (lookup-none name (k + 1) es none)
     ] refl absent
 
+-- the place of a row that stands for an entry
+pub place_at : (entries : List (String Global × Place)) (op : ℕ)
+    → slice_get (map (λ e. e.1) entries) op ≡ place_of (rows_of entries) op
+place_at entries op =
+    let entry_row : String Global × Place → Row = λ e. record { name = string_bytes e.0; place = e.1 } in
+    slice_get-map (λ e. e.1) entries op
+    ∙ map_twice (slice_get entries op)
+    ∙ ap (λ o. option_map (λ row. row.place) o) (sym (slice_get-map entry_row entries op))
+  where
+    map_twice : (o : Option (String Global × Place))
+        → option_map (λ e. e.1) o ≡ option_map (λ row. row.place) (option_map (λ e. let r : Row = record { name = string_bytes e.0; place = e.1 } in r) o)
+    map_twice None = refl
+    map_twice (Some e) = refl
+
+-- an entry with a new name stands at the end
+entries_more : (m : IndexMap (String Global) Place (BuildHasherDefault FoldHasher)) (name : String Global) (place : Place)
+    → first_at (string_bytes name) 0 (names_of (rows_of m.entries)) ≡ None
+    → insert_entry string_eq m.entries name place ≡ m.entries ++ (name, place) ∷ []
+entries_more m name place absent =
+    insert_entry-new string_eq m name place (lookup-none (string_bytes name) 0 m.entries absent)
+
+-- its place too
+pub places_more : (m : IndexMap (String Global) Place (BuildHasherDefault FoldHasher)) (name : String Global) (place : Place)
+    → first_at (string_bytes name) 0 (names_of (rows_of m.entries)) ≡ None
+    → map (λ e. e.1) m.entries ++ place ∷ [] ≡ map (λ e. e.1) (insert_entry string_eq m.entries name place)
+places_more m name place absent =
+    sym (ap (map (λ e. e.1)) (entries_more m name place absent) ∙ map-append (λ e. e.1) m.entries ((name, place) ∷ []))
+
 -- an entry with a new name is a row at the end
 pub rows_more : (m : IndexMap (String Global) Place (BuildHasherDefault FoldHasher)) (name : String Global) (place : Place)
     → first_at (string_bytes name) 0 (names_of (rows_of m.entries)) ≡ None
     → rows_of (insert_entry string_eq m.entries name place) ≡ rows_of m.entries ++ record { name = string_bytes name; place = place } ∷ []
 rows_more m name place absent =
-    ap rows_of (insert_entry-new string_eq m name place (lookup-none (string_bytes name) 0 m.entries absent))
+    ap rows_of (entries_more m name place absent)
     ∙ map-append (λ e. let r : Row = record { name = string_bytes e.0; place = e.1 } in r) m.entries ((name, place) ∷ [])

@@ -1,6 +1,6 @@
 //! The operations of some units, found by name and by number.
 
-ghost use Rattle.std.specs.Prelude.{◌≡◌, ◌<◌, ◌++◌, ◌∷◌, [], None, length};
+ghost use Rattle.std.specs.Prelude.{◌≡◌, ◌<◌, ◌++◌, ◌∷◌, [], None, length, map};
 ghost use Rattle.std.specs.Prelude.{option_map, slice_get, IfSome, OnOk, OnErr};
 ghost use Rattle.std.specs.String.{string_bytes};
 ghost use Rattle.tta_ops.specs.Units.{first_at};
@@ -11,10 +11,13 @@ use indexmap::IndexMap;
 use std::alloc::{AllocError, Global};
 use std::marker::Model;
 
-/// Operations with different names, each at the place that it was added at.
+/// Operations with different names, each at the place that it was added at. The places stand in a row
+/// of their own too, since each cycle asks for some.
 #[derive(Drop)]
 pub struct Operations {
     by_name: IndexMap<String, Place>,
+    places: Vec<Place>,
+    ghost noted: { places.items ≡ map (λ entry. entry.1) by_name.entries },
 }
 
 impl Model for Operations {
@@ -35,6 +38,7 @@ impl Operations {
     {
         Operations {
             by_name: IndexMap::new(alloc),
+            places: Vec::new(alloc),
         }
     }
 
@@ -69,8 +73,8 @@ impl Operations {
     pub fn place(&self, op: usize) -> Option<Place>
         ensures { result ≡ place_of self.now op }
     {
-        match self.by_name.get_index(op) {
-            Some((_, place)) => Some(*place),
+        match self.places.get(op) {
+            Some(place) => Some(*place),
             None => None,
         }
     }
@@ -93,7 +97,11 @@ impl Operations {
             OnOk result (self.new ≡ self.old ++ row ∷ []) }
         ensures err { OnErr result (self.new ≡ self.old) }
     {
-        self.by_name.insert(name, place)?;
+        self.places.push(place)?;
+        if let Err(error) = self.by_name.insert(name, place) {
+            self.places.pop();
+            return Err(error.into());
+        }
         Ok(())
     }
 }
