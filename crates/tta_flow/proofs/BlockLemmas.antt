@@ -8,7 +8,7 @@ use Rattle.tta_list.proofs.Tests.{and_left, and_right, some_same}
 use Rattle.tta_list.proofs.Lists.{list_all_one, all_one, slice_get-longer, slice_get-back}
 use Rattle.tta_flow.specs.Cited.{Step, If, Goto, End, Proc, Program, is_step, is_src, ends_once, IsProc, IsProgram}
 use Rattle.tta_flow.specs.declared.flow.Block.{Block}
-use Rattle.tta_flow.specs.Steps.{falls, target, follows, leads, branches}
+use Rattle.tta_flow.specs.Steps.{falls_through, target, follows, leads, branches}
 use Rattle.tta_flow.specs.Paths.{Reached, Begin, Onward, IsClosed}
 use Rattle.tta_flow.specs.Blocks.{IsFirst, AtBegin, Named, IsBlock, AreBlocks, Holds, IsBlockOf, IsFlow, StandsBefore}
 use Rattle.tta_flow.specs.Runs.{AreEntered, IsRun, AreRuns}
@@ -21,7 +21,7 @@ not_empty [] ends = absurd cc
 not_empty (s ∷ steps) ends = omega arith
 
 -- the last step does not fall on
-falls_within : (steps : List Step) (i : ℕ) → ends_once steps ≡ true → option_map_or falls (slice_get steps i) false ≡ true → i + 1 < length steps
+falls_within : (steps : List Step) (i : ℕ) → ends_once steps ≡ true → option_map_or falls_through (slice_get steps i) false ≡ true → i + 1 < length steps
 falls_within [] i ends e = absurd cc
 falls_within (End ∷ []) zero ends e = absurd cc
 falls_within (End ∷ []) (suc i) ends e = absurd cc
@@ -43,13 +43,13 @@ target_within p q s k ok e = absurd cc
 
 -- a step is followed by the next one where it falls on, or by the one that it names
 pub leads_cases : (steps : List Step) (i j : ℕ) → leads steps i j ≡ true
-    → ((option_map_or falls (slice_get steps i) false ≡ true) × (j ≡ i + 1)) ⊎ (branches steps i j ≡ true)
+    → ((option_map_or falls_through (slice_get steps i) false ≡ true) × (j ≡ i + 1)) ⊎ (branches steps i j ≡ true)
 leads_cases steps i j e = by (slice_get steps i) e where
   by : (o : Option Step) → option_map_or (λ s. follows s i j) o false ≡ true
-      → ((option_map_or falls o false ≡ true) × (j ≡ i + 1)) ⊎ (option_map_or (λ s. option_map_or (λ t. t == j) (target s) false) o false ≡ true)
+      → ((option_map_or falls_through o false ≡ true) × (j ≡ i + 1)) ⊎ (option_map_or (λ s. option_map_or (λ t. t == j) (target s) false) o false ≡ true)
   by None e = absurd cc
-  by (Some s) e = elim (or_cases (falls s && i + 1 == j) _ e) [
-    | inl f ↦ inl (and_left (falls s) _ f, sym (eqb-true (i + 1) j (and_right (falls s) _ f)))
+  by (Some s) e = elim (or_cases (falls_through s && i + 1 == j) _ e) [
+    | inl f ↦ inl (and_left (falls_through s) _ f, sym (eqb-true (i + 1) j (and_right (falls_through s) _ f)))
     | inr t ↦ inr t
   ]
 

@@ -8,7 +8,7 @@ use Rattle.tta_list.proofs.Lists.{some_within}
 use Rattle.tta_list.proofs.Tests.{some_same}
 use Rattle.tta_flow.specs.Cited.{Step, If, Goto, Proc, Program}
 use Rattle.tta_flow.specs.declared.flow.Block.{Block}
-use Rattle.tta_flow.specs.Steps.{falls, target, cuts, cuts_at, follows, leads, branches}
+use Rattle.tta_flow.specs.Steps.{falls_through, target, cuts, cuts_at, follows, leads, branches}
 use Rattle.tta_flow.specs.Paths.{Reached, Begin, Onward}
 use Rattle.tta_flow.specs.Blocks.{IsFirst, Named, After, IsBlock, Holds, IsFlow, StandsBefore}
 use Rattle.tta_flow.specs.Laws.{BeginsWith, FlowLaws}
@@ -28,9 +28,9 @@ branch_cuts steps i j e = by (slice_get steps i) e where
   by (Some s) e = one s e
 
 -- a step that falls on leads to the next
-falls_leads : (steps : List Step) (i : ℕ) → option_map_or falls (slice_get steps i) false ≡ true → leads steps i (i + 1) ≡ true
+falls_leads : (steps : List Step) (i : ℕ) → option_map_or falls_through (slice_get steps i) false ≡ true → leads steps i (i + 1) ≡ true
 falls_leads steps i e = by (slice_get steps i) e where
-  by : (o : Option Step) → option_map_or falls o false ≡ true → option_map_or (λ s. follows s i (i + 1)) o false ≡ true
+  by : (o : Option Step) → option_map_or falls_through o false ≡ true → option_map_or (λ s. follows s i (i + 1)) o false ≡ true
   by None e = absurd cc
   by (Some s) e =
       ap (λ b. (b && i + 1 == i + 1) || option_map_or (λ to. to == i + 1) (target s) false) e
@@ -91,7 +91,7 @@ module _ (p : Program) (blocks : List Block) (h : IsFlow p blocks) where
       ])
 
   falls_on : (k : ℕ) (b : Block) (q : Proc) → slice_get blocks k ≡ Some b → slice_get p.procs b.owner ≡ Some q
-      → option_map_or falls (slice_get q.steps b.last) false ≡ true
+      → option_map_or falls_through (slice_get q.steps b.last) false ≡ true
       → (c : Block) × ((slice_get blocks (k + 1) ≡ Some c) × ((c.owner ≡ b.owner) × (c.first ≡ b.last + 1)))
   falls_on k b q is there e =
       let n = next k b q (b.last + 1) is there (falls_leads q.steps b.last e) in
@@ -153,4 +153,4 @@ module _ (p : Program) (blocks : List Block) (h : IsFlow p blocks) where
       uncut false e = e
 
   pub flow_laws_hold : FlowLaws p blocks
-  flow_laws_hold = record { once = once; entry = entry; next = next; falls = falls_on; inside = inside }
+  flow_laws_hold = record { once = once; entry = entry; next = next; falls_through = falls_on; inside = inside }

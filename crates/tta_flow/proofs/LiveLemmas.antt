@@ -10,7 +10,7 @@ use Rattle.tta_list.proofs.Lists.{slice_get-longer, slice_get-back}
 use Rattle.tta_flow.specs.Cited.{Step, Proc, Program}
 use Rattle.tta_flow.specs.declared.live.Live.{Live}
 use Rattle.tta_flow.specs.declared.live.LiveProc.{LiveProc}
-use Rattle.tta_flow.specs.Steps.{falls, target, follows, branches}
+use Rattle.tta_flow.specs.Steps.{falls_through, target, follows, branches}
 use Rattle.tta_flow.specs.Paths.{LiveBefore, LiveAfter}
 use Rattle.tta_flow.specs.Live.{before_in, after_next, after_in, live_before, live_after, next_of, IsLiveProc, IsLive}
 use Rattle.tta_flow.proofs.BlockLemmas.{leads_cases}
@@ -41,13 +41,13 @@ module _ (q : Proc) (l : LiveProc) (h : IsLiveProc q l) (x : ℕ) (small : x < q
     by : (o : Option Step) → slice_get q.steps i ≡ o → option_map_or (λ n. after_next l n i x) (option_map next_of o) false ≡ true
         → LiveAfter q.steps x i
     by None is t = absurd cc
-    by (Some s) is t = elim (next_cases (falls s && before_in l (i + 1) x) _ t) [
+    by (Some s) is t = elim (next_cases (falls_through s && before_in l (i + 1) x) _ t) [
       | inl f ↦ record {
         next = i + 1;
         leads = ap (λ o. option_map_or (λ (s : Step). follows s i (i + 1)) o false) is
-            ∙ ap (λ b. (b && i + 1 == i + 1) || option_map_or (λ to. to == i + 1) (target s) false) (and_left (falls s) _ f)
+            ∙ ap (λ b. (b && i + 1 == i + 1) || option_map_or (λ to. to == i + 1) (target s) false) (and_left (falls_through s) _ f)
             ∙ ap (λ b. b || option_map_or (λ to. to == i + 1) (target s) false) (eq-eqb (i + 1) (i + 1) refl);
-        live = h.rows.sound x (i + 1) small (and_right (falls s) _ f);
+        live = h.rows.sound x (i + 1) small (and_right (falls_through s) _ f);
       }
       | inr g ↦ named (target s) refl g
     ] where
@@ -56,8 +56,8 @@ module _ (q : Proc) (l : LiveProc) (h : IsLiveProc q l) (x : ℕ) (small : x < q
       named (Some to) at g = record {
         next = to;
         leads = ap (λ o. option_map_or (λ (s : Step). follows s i to) o false) is
-            ∙ ap (λ o. (falls s && i + 1 == to) || option_map_or (λ t. t == to) o false) at
-            ∙ ap (λ b. (falls s && i + 1 == to) || b) (eq-eqb to to refl) ∙ or-true (falls s && i + 1 == to);
+            ∙ ap (λ o. (falls_through s && i + 1 == to) || option_map_or (λ t. t == to) o false) at
+            ∙ ap (λ b. (falls_through s && i + 1 == to) || b) (eq-eqb to to refl) ∙ or-true (falls_through s && i + 1 == to);
         live = h.rows.sound x to small g;
       }
 
@@ -67,15 +67,15 @@ module _ (q : Proc) (l : LiveProc) (h : IsLiveProc q l) (x : ℕ) (small : x < q
     here = h.rows.whole x a.next small a.live
 
     by : (o : Option Step) → slice_get q.steps i ≡ o
-        → ((option_map_or falls (slice_get q.steps i) false ≡ true) × (a.next ≡ i + 1)) ⊎ (branches q.steps i a.next ≡ true)
+        → ((option_map_or falls_through (slice_get q.steps i) false ≡ true) × (a.next ≡ i + 1)) ⊎ (branches q.steps i a.next ≡ true)
         → option_map_or (λ n. after_next l n i x) (option_map next_of o) false ≡ true
-    by None is (inl f) = let e = sym (ap (λ o. option_map_or falls o false) is) ∙ f.0 in absurd cc
+    by None is (inl f) = let e = sym (ap (λ o. option_map_or falls_through o false) is) ∙ f.0 in absurd cc
     by None is (inr t) = let e = sym (ap (λ o. option_map_or (λ s. option_map_or (λ t. t == a.next) (target s) false) o false) is) ∙ t in absurd cc
     by (Some s) is (inl f) =
-        next_first (falls s && before_in l (i + 1) x) _
-        (ap (λ b. b && before_in l (i + 1) x) (sym (ap (λ o. option_map_or falls o false) is) ∙ f.0) ∙ ap (λ (n : ℕ). before_in l n x) (sym f.1) ∙ here)
+        next_first (falls_through s && before_in l (i + 1) x) _
+        (ap (λ b. b && before_in l (i + 1) x) (sym (ap (λ o. option_map_or falls_through o false) is) ∙ f.0) ∙ ap (λ (n : ℕ). before_in l n x) (sym f.1) ∙ here)
     by (Some s) is (inr t) =
-        next_second (falls s && before_in l (i + 1) x) _
+        next_second (falls_through s && before_in l (i + 1) x) _
         (named (target s) (sym (ap (λ o. option_map_or (λ s. option_map_or (λ t. t == a.next) (target s) false) o false) is) ∙ t)) where
           named : (o : Option ℕ) → option_map_or (λ t. t == a.next) o false ≡ true → option_map_or (λ to. before_in l to x) o false ≡ true
           named None t = absurd cc

@@ -9,7 +9,7 @@ use Rattle.tta_flow.specs.Cited.{Step}
 use Rattle.tta_flow.specs.declared.bits.BitRow.{BitRow}
 use Rattle.tta_flow.specs.Paths.{LiveBefore, ReadHere, ReadLater}
 use Rattle.tta_flow.specs.Rows.{has_at, leaves, wanted}
-use Rattle.tta_flow.specs.Steps.{falls, target, follows, leads, reads, assigns}
+use Rattle.tta_flow.specs.Steps.{falls_through, target, follows, leads, reads, assigns}
 
 pub no : {A : Type 0} → true ≡ false → A
 no e = absurd cc
@@ -18,7 +18,7 @@ no e = absurd cc
 
 -- ---- what a step wants, by the rows of those that can follow it
 
-leads_next : (steps : List Step) (i : ℕ) (s : Step) → slice_get steps i ≡ Some s → falls s ≡ true → leads steps i (i + 1) ≡ true
+leads_next : (steps : List Step) (i : ℕ) (s : Step) → slice_get steps i ≡ Some s → falls_through s ≡ true → leads steps i (i + 1) ≡ true
 leads_next steps i s is f =
     ap (λ o. option_map_or (λ (s : Step). follows s i (i + 1)) o false) is
     ∙ ap (λ b. (b && i + 1 == i + 1) || option_map_or (λ to. to == i + 1) (target s) false) f
@@ -27,14 +27,14 @@ leads_next steps i s is f =
 leads_named : (steps : List Step) (i to : ℕ) (s : Step) → slice_get steps i ≡ Some s → target s ≡ Some to → leads steps i to ≡ true
 leads_named steps i to s is t =
     ap (λ o. option_map_or (λ (s : Step). follows s i to) o false) is
-    ∙ ap (λ o. (falls s && i + 1 == to) || option_map_or (λ k. k == to) o false) t
-    ∙ ap (λ b. (falls s && i + 1 == to) || b) (eq-eqb to to refl) ∙ or-true (falls s && i + 1 == to)
+    ∙ ap (λ o. (falls_through s && i + 1 == to) || option_map_or (λ k. k == to) o false) t
+    ∙ ap (λ b. (falls_through s && i + 1 == to) || b) (eq-eqb to to refl) ∙ or-true (falls_through s && i + 1 == to)
 
 -- where a variable is in a row of what can follow, it is in the row of some step that can
 pub leaves_cases : (steps : List Step) (rows : List BitRow) (i x : ℕ) (s : Step) → slice_get steps i ≡ Some s → leaves rows s i x ≡ true
     → (k : ℕ) × ((leads steps i k ≡ true) × (has_at rows k x ≡ true))
-leaves_cases steps rows i x s is e = elim (or_cases (falls s && has_at rows (i + 1) x) _ e) [
-  | inl f ↦ (i + 1, (leads_next steps i s is (and_left (falls s) _ f), and_right (falls s) _ f))
+leaves_cases steps rows i x s is e = elim (or_cases (falls_through s && has_at rows (i + 1) x) _ e) [
+  | inl f ↦ (i + 1, (leads_next steps i s is (and_left (falls_through s) _ f), and_right (falls_through s) _ f))
   | inr t ↦ named (target s) refl t
 ] where
   named : (o : Option ℕ) → target s ≡ o → option_map_or (λ to. has_at rows to x) o false ≡ true
@@ -46,10 +46,10 @@ leaves_cases steps rows i x s is e = elim (or_cases (falls s && has_at rows (i +
 pub leaves_by : (steps : List Step) (rows : List BitRow) (i k x : ℕ) (s : Step) → slice_get steps i ≡ Some s → leads steps i k ≡ true
     → has_at rows k x ≡ true → leaves rows s i x ≡ true
 leaves_by steps rows i k x s is e h =
-    elim (or_cases (falls s && i + 1 == k) (option_map_or (λ to. to == k) (target s) false) (sym (ap (λ o. option_map_or (λ (s : Step). follows s i k) o false) is) ∙ e)) [
+    elim (or_cases (falls_through s && i + 1 == k) (option_map_or (λ to. to == k) (target s) false) (sym (ap (λ o. option_map_or (λ (s : Step). follows s i k) o false) is) ∙ e)) [
       | inl f ↦ ap (λ b. b || option_map_or (λ to. has_at rows to x) (target s) false)
-          (ap (λ b. b && has_at rows (i + 1) x) (and_left (falls s) _ f) ∙ ap (λ n. has_at rows n x) (eqb-true (i + 1) k (and_right (falls s) _ f)) ∙ h)
-      | inr t ↦ ap (λ b. (falls s && has_at rows (i + 1) x) || b) (named (target s) t) ∙ or-true (falls s && has_at rows (i + 1) x)
+          (ap (λ b. b && has_at rows (i + 1) x) (and_left (falls_through s) _ f) ∙ ap (λ n. has_at rows n x) (eqb-true (i + 1) k (and_right (falls_through s) _ f)) ∙ h)
+      | inr t ↦ ap (λ b. (falls_through s && has_at rows (i + 1) x) || b) (named (target s) t) ∙ or-true (falls_through s && has_at rows (i + 1) x)
     ]
   where
     named : (o : Option ℕ) → option_map_or (λ to. to == k) o false ≡ true → option_map_or (λ to. has_at rows to x) o false ≡ true

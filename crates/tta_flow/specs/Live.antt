@@ -7,7 +7,7 @@ use Rattle.tta_flow.specs.declared.live.Live.{Live}
 use Rattle.tta_flow.specs.declared.live.LiveProc.{LiveProc}
 use Rattle.tta_flow.specs.declared.live.Next.{Next}
 use Rattle.tta_flow.specs.Rows.{has_at}
-use Rattle.tta_flow.specs.Steps.{falls, target}
+use Rattle.tta_flow.specs.Steps.{falls_through, target}
 use Rattle.tta_flow.specs.Paths.{LiveBefore, LiveAfter}
 
 -- ---- what is answered
@@ -17,7 +17,7 @@ before_in l step x = has_at l.rows.items step x
 
 abbrev pub after_next : LiveProc → Next → (step x : ℕ) → Bool
 after_next l next step x =
-    if next.falls && before_in l (step + 1) x then true else option_map_or (λ to. before_in l to x) next.target false
+    if next.falls_through && before_in l (step + 1) x then true else option_map_or (λ to. before_in l to x) next.target false
 
 abbrev pub after_in : LiveProc → (step x : ℕ) → Bool
 after_in l step x = option_map_or (λ next. after_next l next step x) (slice_get l.nexts.items step) false
@@ -38,7 +38,7 @@ pub record AreRows (steps : List Step) (vars : ℕ) (rows : List BitRow) : Type 
   pub whole : (x k : ℕ) → x < vars → LiveBefore steps x k → has_at rows k x ≡ true
 
 abbrev pub next_of : Step → Next
-next_of s = record { falls = falls s; target = target s }
+next_of s = record { falls_through = falls_through s; target = target s }
 
 pub record IsLiveProc (q : Proc) (l : LiveProc) : Type 0 where
   pub rows : AreRows q.steps q.vars l.rows.items

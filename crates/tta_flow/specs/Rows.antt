@@ -7,7 +7,7 @@ use Rattle.tta_flow.specs.declared.rows.Work.{Work}
 use Rattle.tta_flow.specs.declared.table.PlaceLists.{PlaceLists}
 use Rattle.tta_flow.specs.Bits.{has}
 use Rattle.tta_flow.specs.Paths.{LiveBefore}
-use Rattle.tta_flow.specs.Steps.{reads, assigns, falls, target, leads}
+use Rattle.tta_flow.specs.Steps.{reads, assigns, falls_through, target, leads}
 use Rattle.tta_flow.specs.Table.{is_listed}
 
 -- ---- what rows hold
@@ -18,7 +18,7 @@ has_at rows step x = option_map_or (λ row. has row x) (slice_get rows step) fal
 
 -- whether a variable is in the row of a step that can follow
 abbrev pub leaves : List BitRow → Step → (at x : ℕ) → Bool
-leaves rows step at x = (falls step && has_at rows (at + 1) x) || option_map_or (λ to. has_at rows to x) (target step) false
+leaves rows step at x = (falls_through step && has_at rows (at + 1) x) || option_map_or (λ to. has_at rows to x) (target step) false
 
 -- whether a step wants a variable live before it: it reads it, or the variable is in a row of what can follow and the
 -- step does not assign it

@@ -47,12 +47,12 @@ target (Goto to) = Some to
 target step = None
 
 -- whether the step in the next place can follow; after a call it does
-abbrev pub falls : Step → Bool
-falls (Goto to) = false
-falls (Return s) = false
-falls Halt = false
-falls End = false
-falls step = true
+abbrev pub falls_through : Step → Bool
+falls_through (Goto to) = false
+falls_through (Return s) = false
+falls_through Halt = false
+falls_through End = false
+falls_through step = true
 
 -- whether a block ends with this step: a branch, a call, a return or a halt
 abbrev pub cuts : Step → Bool
@@ -66,7 +66,7 @@ cuts step = false
 
 -- whether the step at a place can be followed by that at another
 abbrev pub follows : Step → (at next : ℕ) → Bool
-follows step at next = (falls step && at + 1 == next) || option_map_or (λ to. to == next) (target step) false
+follows step at next = (falls_through step && at + 1 == next) || option_map_or (λ to. to == next) (target step) false
 
 -- ---- the same of the steps of a procedure, by their places
 

@@ -3,7 +3,7 @@
 ghost use Rattle.std.specs.Prelude.{◌≡◌, ◌==◌, ◌&&◌, ◌+◌, ◌<◌, ◌^◌, ℕ, false, length, IfOk, OnOk};
 ghost use Rattle.std.specs.Option.{option_map_or};
 ghost use Rattle.tta_flow.specs.Table.{is_listed, Adds};
-ghost use Rattle.tta_flow.specs.Steps.{falls, target, follows, leads};
+ghost use Rattle.tta_flow.specs.Steps.{falls_through, target, follows, leads};
 
 use crate::steps::{falls_on, target_of};
 use crate::table::PlaceLists;
@@ -36,7 +36,7 @@ fn add_next(table: &mut PlaceLists, step: &Step, at: usize) -> Result<(), AllocE
 /// Adds the edge from a step to the next one, if the step goes on to it.
 fn add_fall(table: &mut PlaceLists, step: &Step, at: usize) -> Result<(), AllocError>
     requires { at + 1 < 2 ^ 64 }
-    ensures { OnOk result (Adds at (λ k. falls step.now && at + 1 == k) table.old table.new) }
+    ensures { OnOk result (Adds at (λ k. falls_through step.now && at + 1 == k) table.old table.new) }
 {
     if falls_on(step) {
         table.add(at + 1, at)?;

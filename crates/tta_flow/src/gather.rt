@@ -5,7 +5,7 @@ ghost use Rattle.std.specs.Option.{option_map_or};
 ghost use Rattle.tta_flow.specs.Bits.{has};
 ghost use Rattle.tta_flow.specs.Growth.{Sets};
 ghost use Rattle.tta_flow.specs.Rows.{has_at, AreWide, wanted};
-ghost use Rattle.tta_flow.specs.Steps.{falls, target, assigns, reads};
+ghost use Rattle.tta_flow.specs.Steps.{falls_through, target, assigns, reads};
 
 use crate::bits::BitRow;
 use crate::reads::add_reads;
@@ -31,7 +31,7 @@ pub fn gather(room: &mut BitRow, rows: &[BitRow], step: &Step, at: usize)
 fn gather_next(room: &mut BitRow, rows: &[BitRow], step: &Step, at: usize)
     requires small { at + 1 < 2 ^ 64 }
     requires wide { AreWide rows.now (length room.old.words.items) }
-    ensures { Sets (λ x. falls step.now && has_at rows.now (at + 1) x) room.old room.new }
+    ensures { Sets (λ x. falls_through step.now && has_at rows.now (at + 1) x) room.old room.new }
 {
     if falls_on(step) {
         add_row(room, rows, at + 1);

@@ -29,7 +29,7 @@ pub struct LiveProc {
 /// What can follow a step: the one in the next place, and the one that it names.
 #[derive(Clone, Copy)]
 pub struct Next {
-    pub falls: bool,
+    pub falls_through: bool,
     pub target: Option<u32>,
 }
 
@@ -115,7 +115,7 @@ impl LiveProc {
         requires { step + 1 < 2 ^ 64 }
         ensures { result ≡ after_next self.now next step var }
     {
-        if next.falls && self.before(step + 1, var) {
+        if next.falls_through && self.before(step + 1, var) {
             return true;
         }
         match next.target {
@@ -132,7 +132,7 @@ fn nexts_of(alloc: Global, steps: &[Step]) -> Result<Vec<Next>, AllocError>
     let mut nexts = Vec::new(alloc);
     for step in steps {
         nexts.push(Next {
-            falls: falls_on(step),
+            falls_through: falls_on(step),
             target: target_of(step),
         })?;
     }

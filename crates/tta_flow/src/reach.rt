@@ -5,7 +5,7 @@ ghost use Rattle.std.specs.Option.{option_map_or};
 ghost use Rattle.tta_flow.specs.Bits.{has};
 ghost use Rattle.tta_flow.specs.Paths.{Reached, IsClosed};
 ghost use Rattle.tta_flow.specs.Search.{IsMarked, Finds};
-ghost use Rattle.tta_flow.specs.Steps.{falls, target, follows};
+ghost use Rattle.tta_flow.specs.Steps.{falls_through, target, follows};
 
 use crate::bits::BitRow;
 use crate::search::Search;
@@ -45,7 +45,7 @@ fn mark_next(search: &mut Search, step: &Step, at: usize) -> Result<(), AllocErr
 fn mark_fall(search: &mut Search, step: &Step, at: usize) -> Result<(), AllocError>
     requires marked { IsMarked search.old }
     requires small { at + 1 < 2 ^ 64 }
-    ensures { OnOk result (Finds (λ k. falls step.now && at + 1 == k) search.old search.new) }
+    ensures { OnOk result (Finds (λ k. falls_through step.now && at + 1 == k) search.old search.new) }
 {
     if falls_on(step) {
         search.mark(at + 1)?;

@@ -1,7 +1,7 @@
 //! What a step reads and assigns, and what follows it.
 
 ghost use Rattle.std.specs.Prelude.{◌≡◌};
-ghost use Rattle.tta_flow.specs.Steps.{is_var, reads, assigned, assigns, target, falls, cuts};
+ghost use Rattle.tta_flow.specs.Steps.{is_var, reads, assigned, assigns, target, falls_through, cuts};
 
 use tta_program::{Src, Step};
 
@@ -43,7 +43,7 @@ pub fn target_of(step: &Step) -> Option<u32>
 
 /// Whether the step in the next place can follow.
 pub fn falls_on(step: &Step) -> bool
-    ensures { result ≡ falls step.now }
+    ensures { result ≡ falls_through step.now }
 {
     match step {
         Step::Goto { .. } | Step::Return { .. } | Step::Halt | Step::End => false,

@@ -14,7 +14,7 @@ use Rattle.tta_loadelim.specs.Copied.{is_one_of, copy_of, AreCopied, ends, stays
 use Rattle.tta_loadelim.specs.Thinned.{AreThinned, ends as none_thinned, stays as stays_thinned, goes}
 use Rattle.tta_loadelim.proofs.ServedReads.{served_keep}
 use Rattle.tta_loadelim.proofs.CopiedWords.{copies_keep}
-use Rattle.tta_loadelim.proofs.ThinnedStores.{thinned_keep}
+use Rattle.tta_loadelim.proofs.DeadStores.{thinned_keep}
 
 -- ---- how often words are brought to targets
 

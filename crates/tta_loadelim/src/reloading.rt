@@ -12,7 +12,7 @@ use crate::copying::Plan;
 use crate::serving::serve;
 use crate::sparing::spare_registers;
 use crate::straight::is_straight;
-use crate::thinning::thinned;
+use crate::thinning::without_dead_stores;
 use crate::upcoming::next_loads;
 use crate::worth::{is_worth, may_store_over};
 use std::alloc::{AllocError, Global};
@@ -61,7 +61,7 @@ fn without_stores(
     if !are_some {
         return Ok(Some(items));
     }
-    let rest = thinned(alloc, m, items.as_slice())?;
+    let rest = without_dead_stores(alloc, m, items.as_slice())?;
     Ok(rest)
 }
 

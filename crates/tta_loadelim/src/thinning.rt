@@ -149,7 +149,11 @@ fn unmarked(
 
 /// The items but stores into slots that a later item stores into before any loads them; none where
 /// it is not known that all of these can go. The only error is out of memory.
-pub fn thinned(alloc: Global, m: &Machine, items: &[Item]) -> Result<Option<Vec<Item>>, AllocError>
+pub fn without_dead_stores(
+    alloc: Global,
+    m: &Machine,
+    items: &[Item],
+) -> Result<Option<Vec<Item>>, AllocError>
     ensures { IfOk result (λ o. IfSome o (λ v. AreThinned m.now [] items.now v.items)) }
 {
     let all = accesses(alloc, m, items)?;

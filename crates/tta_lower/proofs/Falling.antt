@@ -17,18 +17,18 @@ falls-leads st at may = plain-leads st at may
 
 -- a plain step may fall through, is no call, and its block has no transfer
 pub record IsPlainExit (p : Program) (home : Homes) (number : ℕ → ℕ → ℕ) (entry : ℕ → ℕ) (owner : ℕ) (st : Step) : Type 0 where
-  pub falls : may_fall st ≡ true
+  pub falls_through : may_fall st ≡ true
   pub no_call : is_call st ≡ false
   pub next : exit_for p home number entry owner st ≡ exit.Next
 
 -- a plain step leads to the next block
 pub plain-exit : (p : Program) (home : Homes) (number : ℕ → ℕ → ℕ) (entry : ℕ → ℕ) (owner : ℕ) (st : Step) → is_plain st ≡ true
     → IsPlainExit p home number entry owner st
-plain-exit p home number entry owner (Copy d s) plain = record { falls = refl; no_call = refl; next = refl }
-plain-exit p home number entry owner (Apply d op a b) plain = record { falls = refl; no_call = refl; next = refl }
-plain-exit p home number entry owner (Load d a) plain = record { falls = refl; no_call = refl; next = refl }
-plain-exit p home number entry owner (Take d) plain = record { falls = refl; no_call = refl; next = refl }
-plain-exit p home number entry owner (Store a v) plain = record { falls = refl; no_call = refl; next = refl }
-plain-exit p home number entry owner (Put v) plain = record { falls = refl; no_call = refl; next = refl }
-plain-exit p home number entry owner (When rel a b d s) plain = record { falls = refl; no_call = refl; next = refl }
+plain-exit p home number entry owner (Copy d s) plain = record { falls_through = refl; no_call = refl; next = refl }
+plain-exit p home number entry owner (Apply d op a b) plain = record { falls_through = refl; no_call = refl; next = refl }
+plain-exit p home number entry owner (Load d a) plain = record { falls_through = refl; no_call = refl; next = refl }
+plain-exit p home number entry owner (Take d) plain = record { falls_through = refl; no_call = refl; next = refl }
+plain-exit p home number entry owner (Store a v) plain = record { falls_through = refl; no_call = refl; next = refl }
+plain-exit p home number entry owner (Put v) plain = record { falls_through = refl; no_call = refl; next = refl }
+plain-exit p home number entry owner (When rel a b d s) plain = record { falls_through = refl; no_call = refl; next = refl }
 plain-exit p home number entry owner st plain = cc

@@ -115,7 +115,7 @@ module _ (u : Units) (p : Program) (known : LoweringInput) (r : Rir) (number : â
           walked-code u p known r number entry before program_now _ _ low by_code
           (walked-after u p known r number entry before 1 program_now _ _ low (before (here + 1)) by_program counted
           (ih (at_step (b.last + 1) vars_new) rest (here + 1) (stay (bf.code).live_out regs_new) frame_new ra k_new memory_new input_new output_new
-          (arrives (b.last + 1) (here + 1) vars_new regs_new frame_new (falls-leads st b.last may) (sym (lowered.falls b has st there may)) no_call size_new held_new kept_new callers_new)
+          (arrives (b.last + 1) (here + 1) vars_new regs_new frame_new (falls-leads st b.last may) (sym (lowered.falls_through b has st there may)) no_call size_new held_new kept_new callers_new)
           rests))
 
       -- a jump to a block
@@ -164,7 +164,7 @@ module _ (u : Units) (p : Program) (known : LoweringInput) (r : Rir) (number : â
         by : PlainStep u p known.home homes sound k f rest here regs frame ra memory input output (steps_for p known.home b.owner st) â†’ Claim
         by (GoesOn x one w) =
             let of_step = step_of p sound b.owner b.last st there in
-            fall-on ways.falls ways.no_call (k + 1) w.vars w.regs_new w.frame_new w.memory_new w.input_new w.output_new w.program
+            fall-on ways.falls_through ways.no_call (k + 1) w.vars w.regs_new w.frame_new w.memory_new w.input_new w.output_new w.program
             (fall u bf.code bs here w.regs_new w.frame_new ra w.memory_new w.input_new w.output_new first_state (one-step x _ one w.code) (bf.exit âˆ™ ways.next))
             (w.size âˆ™ size) w.held
             (back-own p sound known.blocks number frame w.frame_new b.owner rest callers w.untouched kept)

@@ -131,8 +131,8 @@ module _ (p : Program) (known : LoweringInput) (homes : ℕ)
   }
 
   -- the next block follows one that falls through
-  falls : (b : Block) → Has known.blocks b → (st : Step) → step_at p b.owner b.last ≡ Some st → may_fall st ≡ true → number b.owner (b.last + 1) ≡ number b.owner b.first + 1
-  falls b has st there may =
+  falls_through : (b : Block) → Has known.blocks b → (st : Step) → step_at p b.owner b.last ≡ Some st → may_fall st ≡ true → number b.owner (b.last + 1) ≡ number b.owner b.first + 1
+  falls_through b has st there may =
       let one : length (span_parts p b) ≡ 1 = ap (λ l. length (Steps b ∷ l)) (ap (return_after b) there ∙ return-none b st may) in
       next-number b has ∙ ap (λ n. number b.owner b.first + n) one
 
@@ -260,7 +260,7 @@ module _ (p : Program) (known : LoweringInput) (homes : ℕ)
     same = λ b has.
         ap (λ l. entry b.owner + length (entry_parts p known.blocks known.first b.owner) + length (flat_map (span_parts p) l))
         (spans-same p known.blocks known.first (spans_of known.blocks b.owner) b b.last (span-rises b.owner) (answers.order b.owner) (span-in b has) (flow.rises b has) (omega arith));
-    falls = falls;
+    falls_through = falls_through;
     called = called;
     returns = returns;
     entries = λ owner q is other. entry-block owner (slice_get_within p.procs owner q is) (rw (ne_eqb owner p.main other) refl);

@@ -64,7 +64,7 @@ module _ (p : Program) (known : LoweringInput) (r : Rir) (number : ℕ → ℕ �
   pub record IsLowered : Type 0 where
     pub block : (b : Block) → Has known.blocks b → (st : Step) → step_at p b.owner b.last ≡ Some st → BlockFor b st
     pub same : (b : Block) → Has known.blocks b → number b.owner b.last ≡ number b.owner b.first
-    pub falls : (b : Block) → Has known.blocks b → (st : Step) → step_at p b.owner b.last ≡ Some st → may_fall st ≡ true
+    pub falls_through : (b : Block) → Has known.blocks b → (st : Step) → step_at p b.owner b.last ≡ Some st → may_fall st ≡ true
         → number b.owner (b.last + 1) ≡ number b.owner b.first + 1
     pub called : (b : Block) → Has known.blocks b → (callee : ℕ) (args : List Src) → step_at p b.owner b.last ≡ Some (Invoke None callee args)
         → number b.owner (b.last + 1) ≡ number b.owner b.first + 1
