@@ -13,7 +13,7 @@ use Rattle.std.proofs.lemmas.Slice.Eq.{bytes_eq-Decides}
 use Rattle.std.proofs.lemmas.Str.Parse.{digit_from_value}
 use Rattle.tta_ops.specs.Units.{first_at}
 use Rattle.tta_arch.specs.Rules.{IsMachineName, are_different}
-use Rattle.tta_verilog.specs.Spelling.{is_letter}
+use Rattle.tta_verilog.specs.Spelling.{is_word_byte}
 use Rattle.tta_verilog.proofs.Words.{cut}
 
 -- ---- lists of names
@@ -62,9 +62,9 @@ module _ {A : Type 0} (name : A → List ℕ) where
       ∙ found_at xs (k + 1) j p.1 (omega (arith, less)) ∙ ap Some (omega arith)
 
   -- the bytes of a name of a machine
-  pub letters_at : (xs : List A) (k : ℕ) → AllByRecursion IsMachineName (map name xs) → list_all is_letter (name_at xs k) ≡ true
+  pub letters_at : (xs : List A) (k : ℕ) → AllByRecursion IsMachineName (map name xs) → list_all is_word_byte (name_at xs k) ≡ true
   letters_at [] k all = refl
-  letters_at (x ∷ xs) zero all = (and_parts _ (list_all is_letter (name x)) all.0.written).1
+  letters_at (x ∷ xs) zero all = (and_parts _ (list_all is_word_byte (name x)) all.0.written).1
   letters_at (x ∷ xs) (suc k) all = letters_at xs k all.1
 
 -- ---- names with a number

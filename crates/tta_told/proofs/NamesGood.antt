@@ -11,21 +11,21 @@ use Rattle.tta_arch.specs.Rules.{IsMachine, IsMachineName}
 use Rattle.tta_arch.specs.Effects.{KeptReg, KeptImm, KeptOperand, KeptPort}
 use Rattle.tta_hardware.specs.Signals.{GuardOf, IsShort, SourceOf, ShortOf, DestOf, Signal as Named, Store, Code, Data, Frame, Underway, Keeps, IsDue, Due, HasBegun, Raw, IsInside, Port, Fetched, Word, Acts, Starts, Trigger, Operand, Watches, Boxes}
 use Rattle.tta_names.specs.Names.{signal_name, store_name, names_of}
-use Rattle.tta_verilog.specs.Spelling.{is_letter, is_name, AreNames}
+use Rattle.tta_verilog.specs.Spelling.{is_word_byte, is_name, AreNames}
 use Rattle.tta_verilog.proofs.Words.{all_halves, number_is_name, name_letters}
 use Rattle.tta_told.proofs.Spelled.{scope_of}
 use Rattle.tta_told.proofs.Lookups.{name_at, letters_at}
 use Rattle.tta_told.proofs.Decoding.{is_named, one_signal}
 
 abbrev letters : List ℕ → Bool
-letters w = list_all is_letter w
+letters w = list_all is_word_byte w
 
 number_letters : (n : ℕ) → nat_lt n (2 ^ 64) ≡ true → letters (decimal n) ≡ true
 number_letters n small = name_letters (decimal n) (number_is_name n (ltb-true n (2 ^ 64) small))
 
 -- a name with a number behind it
 counted_letters : (w : List ℕ) (n : ℕ) → letters w ≡ true → nat_lt n (2 ^ 64) ≡ true → letters ((w ++ (95 ∷ [])) ++ decimal n) ≡ true
-counted_letters w n p small = and_both is_letter (w ++ (95 ∷ [])) (decimal n) (and_both is_letter w (95 ∷ []) p refl) (number_letters n small)
+counted_letters w n p small = and_both is_word_byte (w ++ (95 ∷ [])) (decimal n) (and_both is_word_byte w (95 ∷ []) p refl) (number_letters n small)
 
 -- a memory by its name
 store_told : List ℕ → Store

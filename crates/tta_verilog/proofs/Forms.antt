@@ -2,7 +2,7 @@
 use Rattle.std.proofs.Common.{◌≡◌, ℕ, ◌==◌, Bool, true, false, not, ◌||◌, List, [], ◌∷◌, ◌++◌, refl, append_assoc}
 use Rattle.std.specs.Prelude.{decimal}
 use Rattle.tta_verilog.specs.Expressions.{constant, part, between, negated, choice, joined, reading, call}
-use Rattle.tta_verilog.specs.Spelling.{is_letter}
+use Rattle.tta_verilog.specs.Spelling.{is_word_byte}
 use Rattle.tta_verilog.proofs.Words.{stops}
 
 pub constant_before : (width word : ℕ) (r : List ℕ) → constant width word ++ r ≡ decimal width ++ (39 ∷ 100 ∷ (decimal word ++ r))
@@ -47,11 +47,11 @@ stored_before name address r = simp append_assoc
 -- whether a text can follow an expression: it neither goes on with its last word, nor takes a part or an argument of it
 abbrev pub can_follow : List ℕ → Bool
 can_follow [] = true
-can_follow (b ∷ t) = not (is_letter b || (b == 39 || (b == 91 || b == 40)))
+can_follow (b ∷ t) = not (is_word_byte b || (b == 39 || (b == 91 || b == 40)))
 
 pub follows_stops : (r : List ℕ) → can_follow r ≡ true → stops r ≡ true
 follows_stops [] h = refl
-follows_stops (b ∷ t) h = by (is_letter b) h where
+follows_stops (b ∷ t) h = by (is_word_byte b) h where
   by : (c : Bool) → not (c || (b == 39 || (b == 91 || b == 40))) ≡ true → not c ≡ true
   by true h = h
   by false h = refl

@@ -3,7 +3,7 @@ use Rattle.std.proofs.Common.{ℕ, zero, suc, ◌==◌, List, [], ◌∷◌, Opt
 use Rattle.std.specs.Prelude.{if◌then◌else◌, codes}
 use Rattle.tta_circuit.specs.Circuit.{Expr, Const, Signal, Slice, Join, Select, Not, Both, Either, Equal, Below, Plus, Minus, Times, BitAnd, BitOr, BitXor, Left, Right, Read, Apply}
 use Rattle.tta_verilog.specs.Expressions.{Names}
-use Rattle.tta_verilog.specs.Spelling.{Token, SignalName, MemoryName, OperationName, Number, is_letter}
+use Rattle.tta_verilog.specs.Spelling.{Token, SignalName, MemoryName, OperationName, Number, is_word_byte}
 use Rattle.tta_verilog.proofs.Words.{run, found}
 
 abbrev pub after : {A B : Type 0} → Option A → (A → Option B) → Option B
@@ -140,7 +140,7 @@ module _ {N M : Type 0} (names : Names N M) (all : List (Token N M)) where
 
     abbrev pub start : List ℕ → Found
     start [] = None
-    start (b ∷ t) = if is_letter b then named (run (b ∷ t)).0 (run (b ∷ t)).1 else marked b t
+    start (b ∷ t) = if is_word_byte b then named (run (b ∷ t)).0 (run (b ∷ t)).1 else marked b t
 
   -- an expression, in so many steps
   unfoldable pub read : ℕ → List ℕ → Found

@@ -6,7 +6,7 @@ use Rattle.std.proofs.lemmas.Bool.{and_parts, false≢true}
 use Rattle.tta_circuit.specs.Circuit.{Expr, Const, Signal, Slice, Join, Select, Not, Both, Either, Equal, Below, Plus, Minus, Times, BitAnd, BitOr, BitXor, Left, Right, Read, Apply}
 use Rattle.tta_circuit.specs.Plain.{is_plain}
 use Rattle.tta_verilog.specs.Expressions.{Names, between, reading, expression}
-use Rattle.tta_verilog.specs.Spelling.{Token, SignalName, MemoryName, OperationName, Number, is_letter, is_name, tokens_in, Scope, has_token, AreNames}
+use Rattle.tta_verilog.specs.Spelling.{Token, SignalName, MemoryName, OperationName, Number, is_word_byte, is_name, tokens_in, Scope, has_token, AreNames}
 use Rattle.tta_verilog.proofs.Words.{stops, cut, run, run_is, name_letters, spelled, token_is_name, IsFound, all_halves}
 use Rattle.tta_verilog.proofs.Forms.{constant_before, part_before, between_before, negated_before, choice_before, joined_before, call_before, kept_before, stored_before, can_follow, follows_stops}
 use Rattle.tta_verilog.proofs.Bare.{bare, size, some_steps}
@@ -36,7 +36,7 @@ module _ {N M : Type 0} (names : Names N M) (scope : Scope N M) (good : AreNames
     by : (w : List ℕ) → is_name w ≡ true → start names all (reads_in k) (w ++ r) ≡ named names all (reads_in k) w r
     by [] h = absurd (false≢true h)
     by (b ∷ bs) h =
-        let p = and_parts (is_letter b) _ h in
+        let p = and_parts (is_word_byte b) _ h in
         ap (λ c. if c then named names all (reads_in k) (run (b ∷ (bs ++ r))).0 (run (b ∷ (bs ++ r))).1
         else marked names all (reads_in k) b (bs ++ r)) p.0
         ∙ ap (λ (q : List ℕ × List ℕ). named names all (reads_in k) q.0 q.1) (run_is (b ∷ bs) r h follows)
@@ -78,7 +78,7 @@ module _ {N M : Type 0} (names : Names N M) (scope : Scope N M) (good : AreNames
         by : (s : List ℕ) → can_follow s ≡ true
             → named names all (reads_in k) (names.signal n) s ≡ a_signal names all (names.signal n) s
         by [] h = refl
-        by (b ∷ s) h = at (is_letter b) (b == 39) (b == 91) (b == 40) h where
+        by (b ∷ s) h = at (is_word_byte b) (b == 39) (b == 91) (b == 40) h where
           at : (l c d e : Bool) → not (l || (c || (d || e))) ≡ true
               → (if c then a_constant names all (names.signal n) s
               else if d then otherwise (after (reads_in k s) (λ p. a_word names all (codes "]") (names.signal n) p.0 p.1))

@@ -11,14 +11,14 @@ use Rattle.std.proofs.lemmas.Fmt.{decimal_is_IsNumeral, decimal_injective}
 use Rattle.std.proofs.lemmas.Slice.Eq.{bytes_eq-Decides}
 use Rattle.std.proofs.lemmas.Str.Parse.{digit_from_value}
 use Rattle.tta_verilog.specs.Expressions.{Names}
-use Rattle.tta_verilog.specs.Spelling.{Token, SignalName, MemoryName, OperationName, Number, is_letter, is_name, Scope, has_token, AreNames}
+use Rattle.tta_verilog.specs.Spelling.{Token, SignalName, MemoryName, OperationName, Number, is_word_byte, is_name, Scope, has_token, AreNames}
 
 -- ---- bytes up to a mark
 
 -- whether no letter begins a text
 abbrev pub stops : List ℕ → Bool
 stops [] = true
-stops (b ∷ t) = not (is_letter b)
+stops (b ∷ t) = not (is_word_byte b)
 
 -- a text in two
 abbrev pub cut : (word rest : List ℕ) → List ℕ × List ℕ
@@ -27,31 +27,31 @@ cut word rest = (word, rest)
 -- the letters that a text begins with, and what is left
 abbrev pub run : List ℕ → List ℕ × List ℕ
 run [] = cut [] []
-run (b ∷ t) = if is_letter b then cut (b ∷ (run t).0) (run t).1 else cut [] (b ∷ t)
+run (b ∷ t) = if is_word_byte b then cut (b ∷ (run t).0) (run t).1 else cut [] (b ∷ t)
 
 stopped : (t : List ℕ) → stops t ≡ true → run t ≡ cut [] t
 stopped [] h = refl
-stopped (b ∷ t) h = by (is_letter b) h where
+stopped (b ∷ t) h = by (is_word_byte b) h where
   by : (c : Bool) → not c ≡ true → (if c then cut (b ∷ (run t).0) (run t).1 else cut [] (b ∷ t)) ≡ cut [] (b ∷ t)
   by true h = absurd (false≢true h)
   by false h = refl
 
 -- letters before a mark are all of the run
-pub run_is : (w t : List ℕ) → list_all is_letter w ≡ true → stops t ≡ true → run (w ++ t) ≡ cut w t
+pub run_is : (w t : List ℕ) → list_all is_word_byte w ≡ true → stops t ≡ true → run (w ++ t) ≡ cut w t
 run_is [] t all h = stopped t h
 run_is (b ∷ bs) t all h =
-    let p = and_parts (is_letter b) (list_all is_letter bs) all in
+    let p = and_parts (is_word_byte b) (list_all is_word_byte bs) all in
     ap (λ c. if c then cut (b ∷ (run (bs ++ t)).0) (run (bs ++ t)).1 else cut [] (b ∷ (bs ++ t))) p.0
     ∙ ap (λ (q : List ℕ × List ℕ). cut (b ∷ q.0) q.1) (run_is bs t p.1 h)
 
 -- ---- numbers
 
-digit_is_letter : (c : ℕ) → digit_value c < 10 → is_letter c ≡ true
+digit_is_letter : (c : ℕ) → digit_value c < 10 → is_word_byte c ≡ true
 digit_is_letter c h = let range = digit_from_value c h in grind (arith, nat_tests)
 
-digits_are_letters : (ds : List ℕ) → AllDigits 10 ds → list_all is_letter ds ≡ true
+digits_are_letters : (ds : List ℕ) → AllDigits 10 ds → list_all is_word_byte ds ≡ true
 digits_are_letters [] h = refl
-digits_are_letters (c ∷ cs) h = and_from (is_letter c) (list_all is_letter cs) (digit_is_letter c h.0) (digits_are_letters cs h.1)
+digits_are_letters (c ∷ cs) h = and_from (is_word_byte c) (list_all is_word_byte cs) (digit_is_letter c h.0) (digits_are_letters cs h.1)
 
 digits_are_name : (ds : List ℕ) → 0 < length ds → AllDigits 10 ds → is_name ds ≡ true
 digits_are_name [] some h = absurd (omega (arith, some))
@@ -62,7 +62,7 @@ pub number_is_name : (n : ℕ) → n < 2 ^ 64 → is_name (decimal n) ≡ true
 number_is_name n small = let d = decimal_is_IsNumeral n small in digits_are_name (decimal n) d.0.0 d.0.1
 
 -- all bytes of a name are letters
-pub name_letters : (w : List ℕ) → is_name w ≡ true → list_all is_letter w ≡ true
+pub name_letters : (w : List ℕ) → is_name w ≡ true → list_all is_word_byte w ≡ true
 name_letters [] h = refl
 name_letters (b ∷ bs) h = h
 

@@ -1,7 +1,7 @@
 -- The names and numbers that a text spells, and names that it tells apart.
-use Rattle.std.specs.Prelude.{◌≡◌, ℕ, ◌^◌, ◌==◌, Bool, true, false, ◌||◌, nat_lt, List, [], ◌∷◌, ◌++◌, length, Option, None, Some}
+use Rattle.std.specs.Prelude.{◌≡◌, ℕ, ◌^◌, Bool, true, false, nat_lt, List, [], ◌∷◌, ◌++◌, length, Option, None, Some}
 use Rattle.std.specs.List.{list_all}
-use Rattle.std.specs.Char.{is_ascii_alphanumeric}
+pub use Rattle.tta_text.specs.Bytes.{is_word_byte}
 use Rattle.tta_circuit.specs.Circuit.{Expr, Const, Signal, Slice, Join, Select, Not, Both, Either, Equal, Below, Plus, Minus, Times, BitAnd, BitOr, BitXor, Left, Right, Read, Apply, Wire, Register, WritePort, Memory}
 use Rattle.tta_verilog.specs.Expressions.{Names}
 
@@ -53,14 +53,10 @@ module _ {N M : Type 0} where
   abbrev pub memory_tokens : Memory N M → List (Token N M)
   memory_tokens x = MemoryName x.name ∷ Number x.width ∷ Number (length x.words) ∷ port_tokens x.port
 
--- what names and numbers are made of: letters, digits and underscores
-abbrev pub is_letter : ℕ → Bool
-is_letter b = is_ascii_alphanumeric b || b == 95
-
--- whether bytes are a name
+-- whether bytes are a name: letters, digits and underscores
 abbrev pub is_name : List ℕ → Bool
 is_name [] = false
-is_name (b ∷ bs) = list_all is_letter (b ∷ bs)
+is_name (b ∷ bs) = list_all is_word_byte (b ∷ bs)
 
 -- which signals, memories and operations have names of their own
 pub record Scope (N M : Type 0) : Type 0 where
