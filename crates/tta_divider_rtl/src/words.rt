@@ -8,7 +8,7 @@ ghost use Rattle.tta_divider_rtl.specs.Pieces as p;
 
 use crate::names::{push_digit, push_digits, push_divisor, push_rest};
 use std::alloc::AllocError;
-use tta_verilog::{push_constant, push_number, push_text};
+use tta_verilog::{push_constant, push_part_select, push_text};
 
 /// Puts a part of a wire of a digit.
 #[tactic(auto, unfolding(tta_verilog::specs::Expressions::part))]
@@ -23,11 +23,7 @@ fn push_digit_part(
         ++ e.part (t.digit_name stage number) low width) }
 {
     push_digit(out, stage, number)?;
-    push_text(out, b"[")?;
-    push_number(out, u64::from(low))?;
-    push_text(out, b"+:")?;
-    push_number(out, u64::from(width))?;
-    push_text(out, b"]")
+    push_part_select(out, u32::from(low), u32::from(width))
 }
 
 /// Puts a part of the digits before the wires that a stage has from a number on.
@@ -43,11 +39,7 @@ fn push_digits_part(
         ++ e.part (t.part_name (p.digits_at stage number)) low width) }
 {
     push_digits(out, stage, number)?;
-    push_text(out, b"[")?;
-    push_number(out, u64::from(low))?;
-    push_text(out, b"+:")?;
-    push_number(out, u64::from(width))?;
-    push_text(out, b"]")
+    push_part_select(out, u32::from(low), u32::from(width))
 }
 
 /// Puts the rest with the next digit of the dividend.

@@ -1,7 +1,7 @@
 //! Numbers, constants and ranges, put at the end of a text.
 
 ghost use Rattle.std.specs.Prelude.{◌≡◌, ◌++◌, codes, decimal, if◌then◌else◌, OnOk};
-ghost use Rattle.tta_verilog.specs.Expressions.{constant};
+ghost use Rattle.tta_verilog.specs.Expressions.{constant, part};
 ghost use Rattle.tta_verilog.specs.Circuits.{range};
 
 use itoa::Buffer;
@@ -40,6 +40,27 @@ pub fn push_range(out: &mut Vec<u8>, width: u32) -> Result<(), AllocError>
     push_text(out, b"[")?;
     push_number(out, u64::from(width.saturating_sub(1)))?;
     push_text(out, b":0] ")
+}
+
+/// Puts which bits of a name are taken: so many of them, from a bit on.
+pub fn push_part_select(out: &mut Vec<u8>, low: u32, width: u32) -> Result<(), AllocError>
+    ensures { OnOk result (out.new.items ≡ out.old.items
+        ++ (codes "[" ++ (decimal low ++ (codes "+:" ++ (decimal width ++ codes "]"))))) }
+{
+    push_text(out, b"[")?;
+    push_number(out, u64::from(low))?;
+    push_text(out, b"+:")?;
+    push_number(out, u64::from(width))?;
+    push_text(out, b"]")
+}
+
+/// Puts a part of what has a name.
+#[tactic(auto, unfolding(crate::specs::Expressions::part))]
+pub fn push_part_of(out: &mut Vec<u8>, name: &[u8], low: u32, width: u32) -> Result<(), AllocError>
+    ensures { OnOk result (out.new.items ≡ out.old.items ++ part name.now low width) }
+{
+    push_text(out, name)?;
+    push_part_select(out, low, width)
 }
 
 /// Puts a bit.

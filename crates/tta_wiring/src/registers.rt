@@ -8,19 +8,13 @@ ghost use Rattle.tta_verilog.specs.Circuits as v;
 ghost use Rattle.tta_wiring.specs.Queues.{pin_names};
 
 use std::alloc::AllocError;
-use tta_verilog::{push_constant, push_number, push_range, push_text};
+use tta_verilog::{push_constant, push_part_of, push_range, push_text};
 
 /// Puts the part of a pointer that is an address of the memory.
-#[tactic(auto, unfolding(tta_verilog::specs::Expressions::part))]
 pub fn push_address(out: &mut Vec<u8>, k: u8, pointer: &[u8]) -> Result<(), AllocError>
     ensures { OnOk result (out.new.items ≡ out.old.items ++ e.part pointer.now 0 k) }
 {
-    push_text(out, pointer)?;
-    push_text(out, b"[")?;
-    push_number(out, 0)?;
-    push_text(out, b"+:")?;
-    push_number(out, u64::from(k))?;
-    push_text(out, b"]")
+    push_part_of(out, pointer, 0, u32::from(k))
 }
 
 /// Puts the registers that count words and that of the first word, as they are declared.
