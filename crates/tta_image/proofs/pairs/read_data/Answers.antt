@@ -1,7 +1,7 @@
 use Rattle.std.proofs.Common.{length, sym, ap, ◌∙◌, arith}
 use Rattle.std.proofs.lemmas.Bool.{ne_eqb}
 use Rattle.std.proofs.lemmas.List.{length-drop}
-use Rattle.tta_image.proofs.PairsDecoded.{some_told}
+use Rattle.tta_image.proofs.PairsRead.{some_told}
 use Rattle.tta_image.proofs.pairs.read_data.Goals as goal
 
 pub returns : goal.returns

@@ -1,6 +1,6 @@
 use Rattle.std.proofs.Common.{◌≡◌, suc, ◌+◌, ◌-◌, ◌*◌, length, List, ℕ, drop, refl, sym, ap, ◌∙◌, arith}
 use Rattle.std.proofs.lemmas.List.{drop-drop, length-drop, take_rest}
-use Rattle.tta_image.proofs.PairsDecoded.{pairs_on, pairs_refused, pairs_end}
+use Rattle.tta_image.proofs.PairsRead.{pairs_on, pairs_refused, pairs_end}
 use Rattle.tta_image.proofs.pairs.read_pairs.Goals as goal
 
 pub datum_in-datum-requires : goal.datum_in-datum-requires
