@@ -10,6 +10,7 @@ pub mod Lines
 pub mod Memories
 pub mod Arrays
 pub mod Parts
+pub mod Given
 pub mod Agreeing
 pub mod Told
 pub mod OneCircuits

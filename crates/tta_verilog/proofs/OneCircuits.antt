@@ -1,5 +1,5 @@
 -- The text of the parts of a circuit is that of one circuit.
-use Rattle.std.proofs.Common.{◌≡◌, ℕ, ◌<◌, Bool, true, ◌||◌, List, [], ◌∷◌, ◌++◌, Option, Some, None, ◌⊎◌, inl, inr, refl, sym, subst}
+use Rattle.std.proofs.Common.{◌≡◌, ℕ, ◌<◌, Bool, true, ◌||◌, List, [], ◌∷◌, ◌++◌, Option, Some, None, ◌⊎◌, inl, inr, refl, sym, ap, subst, ◌∙◌, append-nil}
 use Rattle.std.specs.List.{list_any, AllByRecursion}
 use Rattle.std.proofs.lemmas.Bool.{or_cases}
 use Rattle.tta_list.proofs.Lists.{all_weaker}
@@ -10,7 +10,7 @@ use Rattle.tta_circuit.specs.Closed.{reads_only, PortReads, has_signal}
 use Rattle.tta_circuit.specs.Laws.{TellsApart}
 use Rattle.tta_verilog.specs.Expressions.{Names}
 use Rattle.tta_verilog.specs.Spelling.{Scope, AreNames, tokens_in, port_tokens, has_token}
-use Rattle.tta_verilog.specs.Laws.{AreSpelled, IsToldCircuit, OneCircuit}
+use Rattle.tta_verilog.specs.Laws.{AreSpelled, IsToldCircuit, OneCircuit, OneCircuitBeside}
 use Rattle.tta_verilog.proofs.Words.{all_halves}
 use Rattle.tta_verilog.proofs.Bare.{bare}
 use Rattle.tta_verilog.proofs.OneExpressions.{same_sized}
@@ -77,23 +77,32 @@ module _ {N M : Type 0} (names : Names N M) (scope : Scope N M) (good : AreNames
       let port = one_port x.width y.width x.port y.port like.1 p.0.1.port q.1.port p.1 p.0.0.tokens.1.1.1 in
       λ i. record { name = like.0.0 i; width = like.0.1 i; words = like.0.2 i; port = port i }
 
+-- what is known of the parts of a circuit that a text tells whole
+all_parts : {N M : Type 0} (names : Names N M) (scope : Scope N M) (good : AreNames names scope) (same : N → N → Bool)
+    (same_memory : M → M → Bool) (signal : N → ℕ) (memory : M → ℕ) (c : Circuit N M)
+    → IsToldCircuit names scope same same_memory signal memory c → PartsAre names scope good signal memory c
+all_parts names scope good same same_memory signal memory c p = record {
+  registers = all_and _ _ c.registers p.registers p.plain.registers;
+  memories = all_and _ _ c.memories p.memories p.plain.memories;
+  wires = all_and _ _ c.wires p.wires p.plain.wires;
+}
+
+-- how wide the last inputs are
+widths_after : {N : Type 0} (signal : N → ℕ) (inputs given shown : List (N × ℕ)) → inputs ≡ given ++ shown
+    → AllByRecursion (λ i. (0 < i.1) × (signal i.0 ≡ i.1)) inputs → AllByRecursion (λ i. 0 < i.1) shown
+widths_after signal inputs given shown is all =
+    all_weaker _ _ shown (λ i h. h.0)
+    (all_halves (λ i. (0 < i.1) × (signal i.0 ≡ i.1)) given shown (subst (AllByRecursion (λ i. (0 < i.1) × (signal i.0 ≡ i.1))) is all)).1
+
 module _ {N M : Type 0} (names : Names N M) (scope : Scope N M) (good : AreNames names scope) (same : N → N → Bool) (tells : TellsApart same)
     (same_memory : M → M → Bool) (tells_memory : TellsApart same_memory) (signal other : N → ℕ) (memory other_memory : M → ℕ)
     (c d : Circuit N M) (p : IsToldCircuit names scope same same_memory signal memory c)
     (q : IsToldCircuit names scope same same_memory other other_memory d) (inputs : c.inputs ≡ d.inputs) where
   of_c : PartsAre names scope good signal memory c
-  of_c = record {
-    registers = all_and _ _ c.registers p.registers p.plain.registers;
-    memories = all_and _ _ c.memories p.memories p.plain.memories;
-    wires = all_and _ _ c.wires p.wires p.plain.wires;
-  }
+  of_c = all_parts names scope good same same_memory signal memory c p
 
   of_d : PartsAre names scope good other other_memory d
-  of_d = record {
-    registers = all_and _ _ d.registers q.registers q.plain.registers;
-    memories = all_and _ _ d.memories q.memories q.plain.memories;
-    wires = all_and _ _ d.wires q.wires q.plain.wires;
-  }
+  of_d = all_parts names scope good same same_memory other other_memory d q
 
   module _ (t : AreTold names scope good c d) where
     -- a signal of the circuits has one width in both
@@ -140,9 +149,18 @@ module _ {N M : Type 0} (names : Names N M) (scope : Scope N M) (good : AreNames
         (all_and _ _ c.memories of_c.memories p.closed.memories) of_d.memories in
         λ i. record { inputs = inputs i; wires = wires i; registers = registers i; memories = stores i; outputs = outputs i }
 
+pub one_circuit_beside : (N M : Type 0) → OneCircuitBeside N M
+one_circuit_beside N M names scope good same tells same_memory tells_memory functions modules apart behind signal other memory other_memory c d
+    given shown others p q c_inputs d_inputs shown_are others_are outputs is =
+    let parts = told names scope good functions modules apart behind signal other memory other_memory c d shown others
+    (all_parts names scope good same same_memory signal memory c p) (all_parts names scope good same same_memory other other_memory d q)
+    (all_and _ _ shown shown_are (widths_after signal c.inputs given shown c_inputs p.plain.inputs))
+    (all_and _ _ others others_are (widths_after other d.inputs given others d_inputs q.plain.inputs)) is in
+    all_one names scope good same tells same_memory tells_memory signal other memory other_memory c d p q
+    (c_inputs ∙ ap (λ is. given ++ is) parts.1 ∙ sym d_inputs) parts.0 outputs
+
+-- Without modules beside them there are no signals that modules show.
 pub one_circuit : (N M : Type 0) → OneCircuit N M
 one_circuit N M names scope good same tells same_memory tells_memory functions apart signal other memory other_memory c d p q inputs outputs is =
-    all_one names scope good same tells same_memory tells_memory signal other memory other_memory c d p q inputs
-    (told names scope good functions apart signal other memory other_memory c d
-    (of_c names scope good same tells same_memory tells_memory signal other memory other_memory c d p q inputs)
-    (of_d names scope good same tells same_memory tells_memory signal other memory other_memory c d p q inputs) is) outputs
+    one_circuit_beside N M names scope good same tells same_memory tells_memory functions [] apart refl signal other memory other_memory c d
+    c.inputs [] [] p q (sym (append-nil c.inputs)) (sym inputs ∙ sym (append-nil c.inputs)) tt tt outputs is

@@ -19,7 +19,7 @@ use Rattle.tta_verilog.proofs.OneExpressions.{same_bare}
 
 -- ---- the text of each before another text
 
-wire_before : (name : List ℕ) (width : ℕ) (word r : List ℕ)
+pub wire_before : (name : List ℕ) (width : ℕ) (word r : List ℕ)
     → wire_line name width word ++ r ≡ codes "wire " ++ (range width ++ (name ++ (32 ∷ 61 ∷ 32 ∷ (word ++ (59 ∷ 10 ∷ r)))))
 unfolding wire_line
 wire_before name width word r = simp append_assoc
@@ -47,7 +47,7 @@ module _ {N M : Type 0} (names : Names N M) (scope : Scope N M) (good : AreNames
       ∷ (names.signal x.name ++ (32 ∷ 60 ∷ 61 ∷ 32 ∷ (expression names x.next ++ (59 ∷ 10 ∷ r))))))
   next_before x r = clocked_before (expression names x.enable) (names.signal x.name) (expression names x.next) r
 
-  signal_alike : (n k : N) (r s : List ℕ) → scope.signal n ≡ true → scope.signal k ≡ true → stops r ≡ true → stops s ≡ true
+  pub signal_alike : (n k : N) (r s : List ℕ) → scope.signal n ≡ true → scope.signal k ≡ true → stops r ≡ true → stops s ≡ true
       → names.signal n ++ r ≡ names.signal k ++ s → (n ≡ k) × (r ≡ s)
   signal_alike n k r s p q r_stops s_stops is =
       let t = word_alike (names.signal n) (names.signal k) r s (good.signals n p) (good.signals k q) r_stops s_stops is in

@@ -2,18 +2,19 @@
 use Rattle.std.proofs.Common.{◌≡◌, ℕ, ◌==◌, Bool, true, false, not, List, [], ◌∷◌, ◌++◌, Option, Some, None, refl, sym, ap, ◌∙◌, arith, append_assoc, append-nil}
 use Rattle.std.specs.Prelude.{if◌then◌else◌, drop, is_some}
 use Rattle.std.specs.List.{flat_map, AllByRecursion}
-use Rattle.std.proofs.lemmas.Bool.{eqb-true, true≢false, false≢true}
+use Rattle.std.proofs.lemmas.Bool.{and_parts, eqb-true, true≢false, false≢true}
 use Rattle.std.proofs.lemmas.List.{append_cancel_left}
 use Rattle.tta_circuit.specs.Circuit.{Wire, Register, WritePort, Memory, Circuit}
 use Rattle.tta_circuit.specs.Plain.{IsWrittenAt}
 use Rattle.tta_verilog.specs.Expressions.{Names}
-use Rattle.tta_verilog.specs.Circuits.{wire_line, write_line, register_text, declared, wire_text, memory_text, function_text, array_text, store_text, parts_text}
+use Rattle.tta_verilog.specs.Circuits.{wire_line, write_line, register_text, declared, wire_text, memory_text, function_text, array_text, store_text, given_text, parts_beside}
 use Rattle.tta_verilog.specs.Spelling.{Scope, AreNames, port_tokens}
-use Rattle.tta_verilog.specs.Laws.{AreSpelled, begins_apart}
+use Rattle.tta_verilog.specs.Laws.{AreSpelled, begins_apart, begins_no_wire, begins_behind}
 use Rattle.tta_verilog.proofs.Lines.{first, word_alike, range_alike}
 use Rattle.tta_verilog.proofs.Memories.{function_text_before}
 use Rattle.tta_verilog.proofs.Arrays.{array_text_before}
 use Rattle.tta_verilog.proofs.Lists.{Paired, each_alike, each_along}
+use Rattle.tta_verilog.proofs.Given.{GivenIs, all_given}
 use Rattle.tta_verilog.proofs.Parts.{RegisterIs, WireIs, MemoryIs, LikeRegister, LikeMemory, LikeWire, LikeNext, LikePort, declared_before, declared_alike, memory_alike, wire_alike, next_alike, port_alike, small}
 
 -- whether a text begins as what happens at a clock does, if it begins
@@ -24,6 +25,15 @@ begins_clocked (b ∷ t) = b == 97
 clocked_apart : (t : List ℕ) → begins_clocked t ≡ true → begins_apart t ≡ true
 clocked_apart [] h = refl
 clocked_apart (b ∷ t) h = ap (λ (k : ℕ). begins_apart (k ∷ t)) (eqb-true b 97 h)
+
+clocked_none : (t : List ℕ) → begins_clocked t ≡ true → begins_no_wire t ≡ true
+clocked_none [] h = refl
+clocked_none (b ∷ t) h = ap (λ (k : ℕ). begins_no_wire (k ∷ t)) (eqb-true b 97 h)
+
+-- modules before a text that begins as no wire does
+no_wire_apart : (modules t : List ℕ) → begins_no_wire modules ≡ true → begins_no_wire t ≡ true → begins_no_wire (modules ++ t) ≡ true
+no_wire_apart [] t h k = k
+no_wire_apart (b ∷ bs) t h k = h
 
 -- functions before a text that begins apart
 functions_apart : (functions t : List ℕ) → begins_apart functions ≡ true → begins_apart t ≡ true → begins_apart (functions ++ t) ≡ true
@@ -59,9 +69,13 @@ module _ {N M : Type 0} (names : Names N M) (scope : Scope N M) (good : AreNames
     by false is =
         true≢false (sym apart ∙ ap begins_apart (sym is ∙ array_text_before (names.memory x.name) x.width x.words t))
 
-  no_wire : (x : Wire N M) (t s : List ℕ) → begins_clocked s ≡ true → wire_text names x ++ t ≡ s → ⊥
+  given_apart : (is : List (N × ℕ)) (t : List ℕ) → begins_apart t ≡ true → begins_apart (flat_map (given_text names) is ++ t) ≡ true
+  given_apart [] t h = h
+  given_apart (i ∷ is) t h = refl
+
+  no_wire : (x : Wire N M) (t s : List ℕ) → begins_no_wire s ≡ true → wire_text names x ++ t ≡ s → ⊥
   unfolding wire_line
-  no_wire x t s clocked is = true≢false (sym clocked ∙ ap begins_clocked (sym is))
+  no_wire x t s none is = true≢false (sym none ∙ ap begins_no_wire (sym is))
 
   module _ (signal other : N → ℕ) (memory other_memory : M → ℕ) where
     -- no register as it is declared is a memory that is written
@@ -122,49 +136,64 @@ module _ {N M : Type 0} (names : Names N M) (scope : Scope N M) (good : AreNames
     pub memories : AllByRecursion (MemoryIs names scope good signal memory) c.memories
     pub wires : AllByRecursion (WireIs names scope good signal memory) c.wires
 
-  -- what stands after the wires, and after the functions
+  -- what stands after the modules, after the wires, and after the functions
   abbrev at_clocks : Circuit N M → List ℕ
   at_clocks c = flat_map (register_text names false) c.registers ++ flat_map (store_text names) c.memories
 
-  abbrev after_functions : Circuit N M → List ℕ
-  after_functions c = flat_map (wire_text names) c.wires ++ at_clocks c
+  abbrev after_functions : (shown : List (N × ℕ)) → (modules : List ℕ) → Circuit N M → List ℕ
+  after_functions shown modules c =
+      flat_map (given_text names) shown ++ (flat_map (wire_text names) c.wires ++ (modules ++ at_clocks c))
 
   clocks_clocked : (c : Circuit N M) → begins_clocked (at_clocks c) ≡ true
   clocks_clocked c = nexts_clocked c.registers c.memories
 
-  after_apart : (functions : List ℕ) → begins_apart functions ≡ true → (c : Circuit N M)
-      → begins_apart (functions ++ after_functions c) ≡ true
-  after_apart functions apart c =
-      functions_apart functions (after_functions c) apart (wires_apart c.wires (at_clocks c) (clocked_apart (at_clocks c) (clocks_clocked c)))
+  module _ (functions modules : List ℕ) (apart : begins_apart functions ≡ true) (behind : begins_behind modules ≡ true) where
+    behind_none : (c : Circuit N M) → begins_no_wire (modules ++ at_clocks c) ≡ true
+    behind_none c =
+        no_wire_apart modules (at_clocks c) (and_parts (begins_apart modules) (begins_no_wire modules) behind).1
+        (clocked_none (at_clocks c) (clocks_clocked c))
 
-  -- The texts of two circuits tell that they are alike.
-  pub told : (functions : List ℕ) → begins_apart functions ≡ true → (signal other : N → ℕ) (memory other_memory : M → ℕ) (c d : Circuit N M)
-      → PartsAre signal memory c → PartsAre other other_memory d → parts_text names functions c ≡ parts_text names functions d → AreTold c d
-  told functions apart signal other memory other_memory c d p q is =
-      let registers = each_alike (register_text names true) (RegisterIs names scope good signal memory) (RegisterIs names scope good other other_memory)
-      (LikeRegister names scope good) (declared_alike names scope good signal other memory other_memory) _ _
-      (λ x t known e. no_declared signal other memory other_memory x t d.memories (functions ++ after_functions d) known q.memories
-      (after_apart functions apart d) e)
-      (λ y t known e. no_declared other signal other_memory memory y t c.memories (functions ++ after_functions c) known p.memories
-      (after_apart functions apart c) e)
-      c.registers d.registers p.registers q.registers is in
-      let memories = each_alike (memory_text names) (MemoryIs names scope good signal memory) (MemoryIs names scope good other other_memory)
-      (LikeMemory names scope good) (memory_alike names scope good signal other memory other_memory) _ _
-      (λ x t known e. no_memory x t (functions ++ after_functions d) (after_apart functions apart d) e)
-      (λ y t known e. no_memory y t (functions ++ after_functions c) (after_apart functions apart c) e)
-      c.memories d.memories p.memories q.memories registers.1 in
-      let wires = each_alike (wire_text names) (WireIs names scope good signal memory) (WireIs names scope good other other_memory)
-      (LikeWire names scope good) (wire_alike names scope good signal other memory other_memory) _ _
-      (λ x t known e. no_wire x t (at_clocks d) (clocks_clocked d) e)
-      (λ y t known e. no_wire y t (at_clocks c) (clocks_clocked c) e)
-      c.wires d.wires p.wires q.wires (append_cancel_left functions _ _ memories.1) in
-      let nexts = each_along (register_text names false) (RegisterIs names scope good signal memory) (RegisterIs names scope good other other_memory)
-      (LikeRegister names scope good) (LikeNext names scope good)
-      (λ x y r s known a b e. next_alike names scope good signal other memory other_memory x y r s a b e) _ _
-      c.registers d.registers registers.0 p.registers q.registers wires.1 in
-      let ports = each_along (store_text names) (MemoryIs names scope good signal memory) (MemoryIs names scope good other other_memory)
-      (LikeMemory names scope good) (λ x y. LikePort names scope good x.port y.port)
-      (store_alike signal other memory other_memory) [] []
-      c.memories d.memories memories.0 p.memories q.memories
-      (append-nil (flat_map (store_text names) c.memories) ∙ nexts.1 ∙ sym (append-nil (flat_map (store_text names) d.memories))) in
-      record { registers = registers.0; memories = memories.0; wires = wires.0; nexts = nexts.0; ports = ports.0 }
+    after_apart : (shown : List (N × ℕ)) (c : Circuit N M) → begins_apart (functions ++ after_functions shown modules c) ≡ true
+    after_apart shown c =
+        functions_apart functions (after_functions shown modules c) apart
+        (given_apart shown (flat_map (wire_text names) c.wires ++ (modules ++ at_clocks c))
+        (wires_apart c.wires (modules ++ at_clocks c)
+        (functions_apart modules (at_clocks c) (and_parts (begins_apart modules) (begins_no_wire modules) behind).0
+        (clocked_apart (at_clocks c) (clocks_clocked c)))))
+
+    -- The texts of two circuits tell that they are alike, and which signals the modules show.
+    pub told : (signal other : N → ℕ) (memory other_memory : M → ℕ) (c d : Circuit N M) (shown others : List (N × ℕ))
+        → PartsAre signal memory c → PartsAre other other_memory d
+        → AllByRecursion (GivenIs names scope good) shown → AllByRecursion (GivenIs names scope good) others
+        → parts_beside names functions shown modules c ≡ parts_beside names functions others modules d → AreTold c d × (shown ≡ others)
+    told signal other memory other_memory c d shown others p q shown_are others_are is =
+        let registers = each_alike (register_text names true) (RegisterIs names scope good signal memory) (RegisterIs names scope good other other_memory)
+        (LikeRegister names scope good) (declared_alike names scope good signal other memory other_memory) _ _
+        (λ x t known e. no_declared signal other memory other_memory x t d.memories (functions ++ after_functions others modules d) known q.memories
+        (after_apart others d) e)
+        (λ y t known e. no_declared other signal other_memory memory y t c.memories (functions ++ after_functions shown modules c) known p.memories
+        (after_apart shown c) e)
+        c.registers d.registers p.registers q.registers is in
+        let memories = each_alike (memory_text names) (MemoryIs names scope good signal memory) (MemoryIs names scope good other other_memory)
+        (LikeMemory names scope good) (memory_alike names scope good signal other memory other_memory) _ _
+        (λ x t known e. no_memory x t (functions ++ after_functions others modules d) (after_apart others d) e)
+        (λ y t known e. no_memory y t (functions ++ after_functions shown modules c) (after_apart shown c) e)
+        c.memories d.memories p.memories q.memories registers.1 in
+        let given = all_given names scope good signal other memory other_memory shown others c.wires d.wires (modules ++ at_clocks c)
+        (modules ++ at_clocks d) shown_are others_are p.wires q.wires (behind_none c) (behind_none d)
+        (append_cancel_left functions _ _ memories.1) in
+        let wires = each_alike (wire_text names) (WireIs names scope good signal memory) (WireIs names scope good other other_memory)
+        (LikeWire names scope good) (wire_alike names scope good signal other memory other_memory) _ _
+        (λ x t known e. no_wire x t (modules ++ at_clocks d) (behind_none d) e)
+        (λ y t known e. no_wire y t (modules ++ at_clocks c) (behind_none c) e)
+        c.wires d.wires p.wires q.wires given.1 in
+        let nexts = each_along (register_text names false) (RegisterIs names scope good signal memory) (RegisterIs names scope good other other_memory)
+        (LikeRegister names scope good) (LikeNext names scope good)
+        (λ x y r s known a b e. next_alike names scope good signal other memory other_memory x y r s a b e) _ _
+        c.registers d.registers registers.0 p.registers q.registers (append_cancel_left modules _ _ wires.1) in
+        let ports = each_along (store_text names) (MemoryIs names scope good signal memory) (MemoryIs names scope good other other_memory)
+        (LikeMemory names scope good) (λ x y. LikePort names scope good x.port y.port)
+        (store_alike signal other memory other_memory) [] []
+        c.memories d.memories memories.0 p.memories q.memories
+        (append-nil (flat_map (store_text names) c.memories) ∙ nexts.1 ∙ sym (append-nil (flat_map (store_text names) d.memories))) in
+        (record { registers = registers.0; memories = memories.0; wires = wires.0; nexts = nexts.0; ports = ports.0 }, given.0)

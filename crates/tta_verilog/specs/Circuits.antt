@@ -107,3 +107,13 @@ module _ {N M : Type 0} (names : Names N M) where
   parts_text functions c =
       flat_map (register_text true) c.registers ++ (flat_map memory_text c.memories ++ (functions ++ (flat_map wire_text c.wires
       ++ (flat_map (register_text false) c.registers ++ flat_map store_text c.memories))))
+
+  -- a signal that the circuit is given, as a wire that something else drives
+  abbrev pub given_text : N × ℕ → List ℕ
+  given_text i = codes "wire " ++ (range i.1 ++ (names.signal i.0 ++ codes ";\n"))
+
+  -- The same parts with modules beside them: before the wires stand the signals that the modules show, and behind the wires the modules.
+  abbrev pub parts_beside : (functions : List ℕ) → (shown : List (N × ℕ)) → (modules : List ℕ) → Circuit N M → List ℕ
+  parts_beside functions shown modules c =
+      flat_map (register_text true) c.registers ++ (flat_map memory_text c.memories ++ (functions ++ (flat_map given_text shown
+      ++ (flat_map wire_text c.wires ++ (modules ++ (flat_map (register_text false) c.registers ++ flat_map store_text c.memories))))))

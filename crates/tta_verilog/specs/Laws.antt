@@ -1,5 +1,5 @@
 -- A text is that of one circuit.
-use Rattle.std.specs.Prelude.{◌≡◌, ℕ, ◌^◌, ◌==◌, Bool, true, not, ◌||◌, nat_lt, if◌then◌else◌, List, [], ◌∷◌, is_some}
+use Rattle.std.specs.Prelude.{◌≡◌, ℕ, ◌^◌, ◌==◌, Bool, true, not, ◌||◌, ◌&&◌, nat_lt, if◌then◌else◌, List, [], ◌∷◌, ◌++◌, is_some}
 use Rattle.std.specs.List.{list_any, AllByRecursion}
 use Rattle.tta_circuit.specs.Circuit.{Expr, Memory, Circuit}
 use Rattle.tta_circuit.specs.Widths.{is_sized}
@@ -7,8 +7,8 @@ use Rattle.tta_circuit.specs.Plain.{is_plain, IsPlain}
 use Rattle.tta_circuit.specs.Closed.{IsClosed}
 use Rattle.tta_circuit.specs.Laws.{TellsApart}
 use Rattle.tta_verilog.specs.Expressions.{Names, expression}
-use Rattle.tta_verilog.specs.Circuits.{parts_text}
-use Rattle.tta_verilog.specs.Spelling.{Token, Scope, tokens_in, wire_tokens, register_tokens, memory_tokens, has_token, AreNames}
+use Rattle.tta_verilog.specs.Circuits.{parts_text, parts_beside}
+use Rattle.tta_verilog.specs.Spelling.{Token, SignalName, Number, Scope, tokens_in, wire_tokens, register_tokens, memory_tokens, has_token, AreNames}
 
 -- tokens that a text can spell
 abbrev pub AreSpelled : {N M : Type 0} → Scope N M → List (Token N M) → Type 0
@@ -67,3 +67,29 @@ OneCircuit N M =
     → (signal other : N → ℕ) (memory other_memory : M → ℕ) (c d : Circuit N M)
     → IsToldCircuit names scope same same_memory signal memory c → IsToldCircuit names scope same same_memory other other_memory d
     → c.inputs ≡ d.inputs → c.outputs ≡ d.outputs → parts_text names functions c ≡ parts_text names functions d → c ≡ d
+
+-- ---- circuits with modules beside them
+
+-- whether a text begins as no wire does: those begin with `w`
+abbrev pub begins_no_wire : List ℕ → Bool
+begins_no_wire [] = true
+begins_no_wire (b ∷ bs) = not (b == 119)
+
+-- whether it begins as no register, no memory and no wire does
+abbrev pub begins_behind : List ℕ → Bool
+begins_behind t = begins_apart t && begins_no_wire t
+
+-- signals that a circuit is given, whose names and widths are spelled
+abbrev pub AreDeclared : {N M : Type 0} → Scope N M → List (N × ℕ) → Type 0
+AreDeclared scope is = AllByRecursion (λ i. AreSpelled scope (SignalName i.0 ∷ Number i.1 ∷ [])) is
+
+-- The same of circuits with modules beside them: of their inputs the text shows those that modules drive, which are the last of them.
+abbrev pub OneCircuitBeside : (N M : Type 0) → Type 0
+OneCircuitBeside N M =
+    (names : Names N M) (scope : Scope N M) → AreNames names scope → (same : N → N → Bool) → TellsApart same
+    → (same_memory : M → M → Bool) → TellsApart same_memory → (functions modules : List ℕ)
+    → begins_apart functions ≡ true → begins_behind modules ≡ true
+    → (signal other : N → ℕ) (memory other_memory : M → ℕ) (c d : Circuit N M) (given shown others : List (N × ℕ))
+    → IsToldCircuit names scope same same_memory signal memory c → IsToldCircuit names scope same same_memory other other_memory d
+    → c.inputs ≡ given ++ shown → d.inputs ≡ given ++ others → AreDeclared scope shown → AreDeclared scope others
+    → c.outputs ≡ d.outputs → parts_beside names functions shown modules c ≡ parts_beside names functions others modules d → c ≡ d

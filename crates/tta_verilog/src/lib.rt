@@ -4,7 +4,7 @@
 mod laws;
 mod tokens;
 
-pub use laws::{one_circuit, one_expression};
+pub use laws::{one_circuit, one_circuit_beside, one_expression};
 pub use tokens::{
     push_bit, push_constant, push_number, push_part_of, push_part_select, push_range, push_text,
 };
