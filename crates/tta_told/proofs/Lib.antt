@@ -2,10 +2,16 @@ pub mod Narrow
 pub mod Constants
 pub mod WireConstants
 pub mod RegisterConstants
+pub mod WatchConstants
+pub mod BoxConstants
 pub mod Spelled
 pub mod Lookups
+pub mod Different
+pub mod HasName
 pub mod Decoding
 pub mod NamesGood
 pub mod Ranges
 pub mod Alike
+pub mod Here
+pub mod Parts
 pub mod OneTexts

@@ -96,10 +96,13 @@ digits_unmarked : (ds : List ℕ) → AllDigits 10 ds → has_mark ds ≡ false
 digits_unmarked [] h = refl
 digits_unmarked (c ∷ cs) h = ap (λ b. b || has_mark cs) (no_digit c h.0) ∙ digits_unmarked cs h.1
 
+-- what stands before a number, and the number
+pub number_cut : (w : List ℕ) (n : ℕ) → n < 2 ^ 64 → last_cut (w ++ (95 ∷ decimal n)) ≡ cut w (decimal n)
+number_cut w n small = cut_is w (decimal n) (digits_unmarked (decimal n) (decimal_is_IsNumeral n small).0.1)
+
 -- a name and a number behind it
 pub pair_is : (w : List ℕ) (n : ℕ) → n < 2 ^ 64 → last_cut ((w ++ (95 ∷ [])) ++ decimal n) ≡ cut w (decimal n)
-pair_is w n small =
-    ap last_cut (append_assoc w (95 ∷ []) (decimal n)) ∙ cut_is w (decimal n) (digits_unmarked (decimal n) (decimal_is_IsNumeral n small).0.1)
+pair_is w n small = ap last_cut (append_assoc w (95 ∷ []) (decimal n)) ∙ number_cut w n small
 
 -- a number
 pub value_is : (n : ℕ) → n < 2 ^ 64 → digits_value 10 (decimal n) ≡ n

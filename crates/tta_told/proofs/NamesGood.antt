@@ -1,21 +1,22 @@
 -- The names of a machine's signals, memories and operations can be told apart.
-use Rattle.std.proofs.Common.{◌≡◌, ℕ, ◌^◌, Bool, true, nat_lt, List, [], ◌∷◌, ◌++◌, length, map, refl, sym, ap, ◌∙◌}
+use Rattle.std.proofs.Common.{◌≡◌, ℕ, ◌^◌, Bool, true, ◌&&◌, nat_lt, List, [], ◌∷◌, ◌++◌, length, map, refl, sym, ap, ◌∙◌}
 use Rattle.std.specs.Prelude.{codes, decimal, drop, if◌then◌else◌}
 use Rattle.std.specs.List.{list_all, AllByRecursion}
 use Rattle.std.specs.Str.{bytes_eq}
-use Rattle.std.proofs.lemmas.Bool.{and_parts, ltb-true, false≢true}
+use Rattle.std.proofs.lemmas.Bool.{and_parts, ltb-true}
 use Rattle.std.proofs.lemmas.Fmt.{decimal_injective}
 use Rattle.tta_list.proofs.Lists.{and_both}
 use Rattle.tta_arch.specs.Machine.{Machine}
 use Rattle.tta_arch.specs.Rules.{IsMachine, IsMachineName}
-use Rattle.tta_arch.specs.Effects.{KeptReg, KeptImm, KeptOperand, KeptPort}
-use Rattle.tta_hardware.specs.Signals.{GuardOf, IsShort, SourceOf, ShortOf, DestOf, Signal as Named, Store, Code, Data, Frame, Underway, Keeps, IsDue, Due, HasBegun, Raw, IsInside, Port, Fetched, Word, Acts, Starts, Trigger, Operand, Watches, Boxes}
-use Rattle.tta_names.specs.Names.{signal_name, store_name, names_of}
+use Rattle.tta_arch.specs.Effects.{Place, KeptReg, KeptImm, KeptOperand, KeptRa, KeptPort}
+use Rattle.tta_hardware.specs.Signals.{GuardOf, IsShort, SourceOf, ShortOf, DestOf, Signal as Named, Store, Code, Data, Frame, Underway, Keeps, IsDue, Due, HasBegun, Raw, IsInside, Port, Fetched, Word, Acts, Starts, Trigger, Operand, HasWord, LacksRegister, LacksPort, LacksOperand, Clashes, Watches, Shows, IsFrom, Boxes}
+use Rattle.tta_names.specs.Names.{place_name, signal_name, store_name, names_of}
 use Rattle.tta_verilog.specs.Spelling.{is_word_byte, is_name, AreNames}
 use Rattle.tta_verilog.proofs.Words.{all_halves, number_is_name, name_letters}
 use Rattle.tta_told.proofs.Spelled.{scope_of}
 use Rattle.tta_told.proofs.Lookups.{name_at, letters_at}
-use Rattle.tta_told.proofs.Decoding.{is_named, one_signal}
+use Rattle.tta_told.proofs.HasName.{is_named}
+use Rattle.tta_told.proofs.Decoding.{one_signal}
 
 abbrev letters : List ℕ → Bool
 letters w = list_all is_word_byte w
@@ -82,6 +83,18 @@ module _ (m : Machine) (good : IsMachine m) where
       (all_halves IsMachineName (map (λ b. b.name) m.buses) (map (λ s. s.name) m.sockets)
       (all_halves IsMachineName (map (λ b. b.name) m.buses ++ map (λ s. s.name) m.sockets) (map (λ f. f.name) m.files) up_to_files).0).0
 
+  -- the name of a place is
+  place_letters : (p : Place) → has (Keeps p) ≡ true → letters (place_name m p) ≡ true
+  place_letters (KeptOperand k) is = letters_at (λ x. x.name) m.units k units_named
+  place_letters (KeptPort k) is = letters_at (λ x. x.name) m.units k units_named
+  place_letters (KeptReg k n) is =
+      counted_letters (name_at (λ x. x.name) m.files k) n (letters_at (λ x. x.name) m.files k files_named)
+      (and_parts (nat_lt k (length m.files)) (nat_lt n (2 ^ 64)) is).1
+  place_letters (KeptImm k n) is =
+      counted_letters (name_at (λ x. x.name) m.imms k) n (letters_at (λ x. x.name) m.imms k imms_named)
+      (and_parts (nat_lt k (length m.imms)) (nat_lt n (2 ^ 64)) is).1
+  place_letters KeptRa is = refl
+
   -- a signal's name is made of letters, digits and underscores
   signal_is_name : (n : Named) → has n ≡ true → is_name (signal_name m n) ≡ true
   signal_is_name (Underway n) is = number_letters n is
@@ -97,12 +110,8 @@ module _ (m : Machine) (good : IsMachine m) where
   signal_is_name (Fetched (DestOf k)) is = letters_at (λ x. x.name) m.buses k buses_named
   signal_is_name (Word k) is = letters_at (λ x. x.name) m.buses k buses_named
   signal_is_name (Acts k) is = letters_at (λ x. x.name) m.buses k buses_named
-  signal_is_name (Keeps (KeptReg k n)) is =
-      counted_letters (name_at (λ x. x.name) m.files k) n (letters_at (λ x. x.name) m.files k files_named)
-      (and_parts (nat_lt k (length m.files)) (nat_lt n (2 ^ 64)) is).1
-  signal_is_name (Keeps (KeptImm k n)) is =
-      counted_letters (name_at (λ x. x.name) m.imms k) n (letters_at (λ x. x.name) m.imms k imms_named)
-      (and_parts (nat_lt k (length m.imms)) (nat_lt n (2 ^ 64)) is).1
+  signal_is_name (Keeps (KeptReg k n)) is = place_letters (KeptReg k n) is
+  signal_is_name (Keeps (KeptImm k n)) is = place_letters (KeptImm k n) is
   signal_is_name (IsDue k n) is =
       counted_letters (name_at (λ x. x.name) m.units k) n (letters_at (λ x. x.name) m.units k units_named)
       (and_parts (nat_lt k (length m.units)) (nat_lt n (2 ^ 64)) is).1
@@ -121,8 +130,19 @@ module _ (m : Machine) (good : IsMachine m) where
   signal_is_name (Starts k n) is =
       counted_letters (name_at (λ x. x.name) m.units k) n (letters_at (λ x. x.name) m.units k units_named)
       (and_parts (nat_lt k (length m.units)) (nat_lt n (2 ^ 64)) is).1
-  signal_is_name (Watches w) is = absurd (false≢true is)
-  signal_is_name (Boxes x) is = absurd (false≢true is)
+  signal_is_name (Watches (HasWord p)) is = place_letters p is
+  signal_is_name (Watches (LacksRegister k)) is = letters_at (λ x. x.name) m.buses k buses_named
+  signal_is_name (Watches (LacksPort k)) is = letters_at (λ x. x.name) m.buses k buses_named
+  signal_is_name (Watches (LacksOperand k)) is = letters_at (λ x. x.name) m.units k units_named
+  signal_is_name (Watches (Clashes k)) is = letters_at (λ x. x.name) m.units k units_named
+  signal_is_name (Boxes (Shows k n)) is =
+      counted_letters (name_at (λ x. x.name) m.units k) n (letters_at (λ x. x.name) m.units k units_named)
+      (and_parts (nat_lt k (length m.units)) (nat_lt n (2 ^ 64)) is).1
+  signal_is_name (Boxes (IsFrom k n d)) is =
+      let p = and_parts (nat_lt k (length m.units) && nat_lt n (2 ^ 64)) (nat_lt d (2 ^ 64)) is in
+      and_both is_word_byte ((name_at (λ x. x.name) m.units k ++ (95 ∷ [])) ++ decimal n) (95 ∷ decimal d)
+      (counted_letters (name_at (λ x. x.name) m.units k) n (letters_at (λ x. x.name) m.units k units_named)
+      (and_parts (nat_lt k (length m.units)) (nat_lt n (2 ^ 64)) p.0).1) (number_letters d p.1)
   signal_is_name n is = refl
 
   pub are_names : AreNames (names_of m) (scope_of has)

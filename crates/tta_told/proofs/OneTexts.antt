@@ -1,57 +1,53 @@
 -- The text of a machine with its code as a circuit is that of one circuit.
-use Rattle.std.proofs.Common.{◌≡◌, ℕ, zero, suc, ◌<◌, ◌≤◌, ◌^◌, ◌==◌, Bool, true, false, ◌&&◌, nat_lt, List, [], ◌∷◌, ◌++◌, length, replicate, Some, refl, sym, ap, ◌∙◌, arith}
+use Rattle.std.proofs.Common.{◌≡◌, ℕ, zero, suc, ◌<◌, ◌≤◌, ◌^◌, Bool, true, false, nat_lt, List, [], ◌∷◌, ◌++◌, length, replicate, refl, sym, ap, subst, ◌∙◌, arith}
 use Rattle.std.specs.List.{list_any, AllByRecursion}
-use Rattle.std.proofs.lemmas.Bool.{and_parts, and_from, lt-ltb, ltb-true, eqb-true}
+use Rattle.std.proofs.lemmas.Bool.{lt-ltb}
 use Rattle.std.proofs.lemmas.List.{length-map, length-replicate}
 use Rattle.tta_ops.specs.Units.{Units}
 use Rattle.tta_arch.specs.Machine.{Machine}
 use Rattle.tta_arch.specs.Rules.{IsMachine, same_op}
-use Rattle.tta_arch.specs.Effects.{width_of, KeptReg}
-use Rattle.tta_arch.specs.Fields.{template_width, guard_width, payload_width, dest_width}
 use Rattle.tta_arch.specs.declared.parts.Op.{Op}
 use Rattle.tta_arch.specs.declared.parts.Op.TheVariants.{Stw, Stf}
 use Rattle.tta_arch.proofs.Facts.{address_most}
 use Rattle.tta_arch.proofs.Widths.{pow_le}
 use Rattle.tta_code.specs.declared.code.Code.{Code as Program}
-use Rattle.tta_image.proofs.NarrowFields.{narrow as narrow_fields, narrow_template}
-use Rattle.tta_list.proofs.Lists.{all_append}
-use Rattle.tta_circuit.specs.Circuit.{Wire, Register, Circuit, Signal}
-use Rattle.tta_circuit.specs.Plain.{IsWrittenWire, IsWrittenRegister, IsWrittenPort, IsPlain}
+use Rattle.tta_circuit.specs.Circuit.{Memory, Circuit}
+use Rattle.tta_circuit.specs.Plain.{IsWrittenMemory, IsPlain}
+use Rattle.tta_circuit.specs.Closed.{PortReads, has_signal, IsClosed}
 use Rattle.tta_circuit.specs.Laws.{TellsApart}
 use Rattle.tta_hardware.specs.Cited.{word_width}
-use Rattle.tta_hardware.specs.Signals.{Field, GuardOf, IsShort, SourceOf, ShortOf, DestOf, TemplateOf, LongOf, Store, Code, Data, Frame, Signal as Named, Pc, Whole, Keeps, Fetched, Trigger, Operand, NextPc, same_signal, same_store}
-use Rattle.tta_hardware.specs.Wires.{some_start, word_of_start}
-use Rattle.tta_hardware.specs.Registers.{register_width, register}
-use Rattle.tta_hardware.specs.Hardware.{wire, wire_width, wire_names, register_names, store_port, code_words, circuit_of}
-use Rattle.tta_hardware.specs.Fields.{field_width, word_of}
-use Rattle.tta_hardware.specs.Stands.{has_field}
+use Rattle.tta_hardware.specs.Signals.{Store, Code, Data, Frame, Signal as Named, same_signal, same_store}
+use Rattle.tta_hardware.specs.Hardware.{store_port, code_words, circuit_of}
+use Rattle.tta_hardware.specs.Fields.{word_of}
 use Rattle.tta_hardware.specs.Sized.{signal_width, store_width}
 use Rattle.tta_hardware.proofs.Named.{tells, store_is}
-use Rattle.tta_hardware.proofs.There.{is_there, wires_there, registers_there}
-use Rattle.tta_hardware.proofs.OnlyThere.{ok, some_ok, of_start}
-use Rattle.tta_hardware.proofs.WiresRead.{wire_ok}
-use Rattle.tta_hardware.proofs.RegistersRead.{enabled_ok, register_ok}
-use Rattle.tta_hardware.proofs.WiresFit.{all_map, wide_file}
-use Rattle.tta_hardware.proofs.RegistersFit.{weaker}
 use Rattle.tta_hardware.proofs.Plainly.{circuit_is_plain}
 use Rattle.tta_hardware.proofs.ReadsThere.{circuit_is_closed}
 use Rattle.tta_hardware.proofs.Kept.{words_kept}
+use Rattle.tta_trap.specs.Trap.{trap_circuit}
+use Rattle.tta_trap.specs.Sized.{trap_signal_width}
+use Rattle.tta_trap.proofs.Widths.{trap_is_plain}
+use Rattle.tta_trap.proofs.Closing.{trap_is_closed}
+use Rattle.tta_boxed.specs.Boxed.{box_inputs, boxed}
+use Rattle.tta_boxed.specs.Sized.{boxed_signal_width}
+use Rattle.tta_boxed.specs.Theorem.{whole}
+use Rattle.tta_boxed.proofs.Plain.{boxed_is_plain}
+use Rattle.tta_boxed.proofs.Closed.{boxed_is_closed}
 use Rattle.tta_names.specs.Names.{names_of}
-use Rattle.tta_verilog.specs.Spelling.{Scope, tokens_in, wire_tokens, register_tokens, port_tokens, has_token}
-use Rattle.tta_verilog.specs.Laws.{AreSpelled, IsToldCircuit}
+use Rattle.tta_verilog.specs.Spelling.{Scope}
+use Rattle.tta_verilog.specs.Laws.{IsToldMemory, IsToldCircuit, AreDeclared}
+use Rattle.tta_verilog.specs.Circuits.{parts_text, parts_beside}
 use Rattle.tta_verilog.proofs.Words.{all_halves}
-use Rattle.tta_verilog.proofs.Lists.{all_and}
-use Rattle.tta_verilog.proofs.OneCircuits.{one_circuit}
-use Rattle.tta_told.specs.Laws.{IsProgrammed, AreCalledAlike, OneText}
+use Rattle.tta_list.proofs.Lists.{all_weaker}
+use Rattle.tta_verilog.proofs.OneCircuits.{one_circuit, one_circuit_beside}
+use Rattle.tta_told.specs.Laws.{IsProgrammed, AreCalledAlike, OneText, OneTrapText, OneBoxedText}
 use Rattle.tta_told.proofs.Alike.{as_many, same_names}
-use Rattle.tta_verilog.specs.Circuits.{parts_text}
-use Rattle.tta_told.proofs.Narrow.{narrow, word_most}
-use Rattle.tta_told.proofs.WireConstants.{wire_narrow}
-use Rattle.tta_told.proofs.RegisterConstants.{enabled_narrow, register_narrow, enable_narrow, address_narrow, word_narrow}
-use Rattle.tta_told.proofs.Spelled.{scope_of, spelled}
-use Rattle.tta_told.proofs.Decoding.{is_named}
+use Rattle.tta_told.proofs.RegisterConstants.{enable_narrow, address_narrow, word_narrow}
+use Rattle.tta_told.proofs.Spelled.{scope_of}
 use Rattle.tta_told.proofs.NamesGood.{are_names}
-use Rattle.tta_told.proofs.Ranges.{there_named}
+use Rattle.tta_told.proofs.HasName.{is_named}
+use Rattle.tta_told.proofs.Here.{InputHere, AreHere, PortHere, port_spelled, told_whole}
+use Rattle.tta_told.proofs.Parts.{own, small, word_short, plain_here, trap_here, shown_here, boxed_here}
 
 tells_store : TellsApart same_store
 tells_store = record { is = store_is; itself = itself } where
@@ -59,9 +55,6 @@ tells_store = record { is = store_is; itself = itself } where
   itself Code = refl
   itself Data = refl
   itself Frame = refl
-
-small : (n most : ℕ) → n ≤ most → most < 2 ^ 64 → nat_lt n (2 ^ 64) ≡ true
-small n most p q = lt-ltb n (2 ^ 64) (omega (arith, p, q))
 
 -- words that are below a number, as a test of each
 below_test : (most : ℕ) (ws : List ℕ) → AllByRecursion (λ w. w < most) ws → AllByRecursion (λ w. nat_lt w most ≡ true) ws
@@ -77,7 +70,7 @@ zeros_test zero = tt
 zeros_test (suc n) = (refl, zeros_test n)
 
 module _ (u : Units) (l m : Machine) (code : Program) (memory : List ℕ) (p : IsProgrammed u m code memory) (has : Named → Bool)
-    (wider : (n : Named) → is_there m n ≡ true → has n ≡ true) where
+    (wider : (n : Named) → own m n ≡ true → has n ≡ true) where
   abbrev rules : IsMachine m
   rules = p.rules
 
@@ -87,112 +80,7 @@ module _ (u : Units) (l m : Machine) (code : Program) (memory : List ℕ) (p : I
   abbrev scope : Scope Named Store
   scope = scope_of has
 
-  plain : IsPlain (signal_width m) (store_width m) c
-  plain = (circuit_is_plain m code memory rules).0
-
-  -- ---- widths
-
-  word_short : nat_lt (word_width m) (2 ^ 64) ≡ true
-  word_short = small (word_width m) 884 (word_most m rules) (omega arith)
-
-  address_short : nat_lt m.control.address (2 ^ 64) ≡ true
-  address_short = small m.control.address 16 (address_most m rules) (omega arith)
-
-  field_short : (f : Field) → has_field m f ≡ true → nat_lt (field_width m f) (2 ^ 64) ≡ true
-  field_short (GuardOf bus) is =
-      small (guard_width m bus) 7 (narrow_fields m bus rules (ltb-true bus (length m.buses) (and_parts (nat_lt bus (length m.buses)) _ is).0)).guard
-      (omega arith)
-  field_short (SourceOf bus) is =
-      small (payload_width m bus) 32 (narrow_fields m bus rules (ltb-true bus (length m.buses) is)).payload (omega arith)
-  field_short (DestOf bus) is =
-      small (dest_width m bus) 15 (narrow_fields m bus rules (ltb-true bus (length m.buses) (and_parts (nat_lt bus (length m.buses)) _ is).0)).dest
-      (omega arith)
-  field_short TemplateOf is = small (template_width m) 4 (narrow_template m rules) (omega arith)
-  field_short (IsShort bus) is = refl
-  field_short (ShortOf bus) is = refl
-  field_short LongOf is = refl
-
-  wire_short : (n : Named) → is_there m n ≡ true → nat_lt (wire_width m n) (2 ^ 64) ≡ true
-  wire_short (Fetched f) is = field_short f is
-  wire_short NextPc is = address_short
-  wire_short n is = refl
-
-  file_short : (file : ℕ) → nat_lt (width_of m file) (2 ^ 64) ≡ true
-  file_short file = by (width_of m file == 1) refl where
-    by : (b : Bool) → (width_of m file == 1) ≡ b → nat_lt (width_of m file) (2 ^ 64) ≡ true
-    by true is = small (width_of m file) 1 (let e = eqb-true (width_of m file) 1 is in omega (arith, e)) (omega arith)
-    by false is = small (width_of m file) 32 (let e = wide_file m rules file is in omega (arith, e)) (omega arith)
-
-  register_short : (n : Named) → nat_lt (register_width m n) (2 ^ 64) ≡ true
-  register_short Pc = address_short
-  register_short Whole = word_short
-  register_short (Keeps (KeptReg file index)) = file_short file
-  register_short n = refl
-
-  -- ---- wires and registers
-
-  abbrev Wanted : Wire Named Store → Type 0
-  Wanted w = (has w.name ≡ true) × ((nat_lt w.width (2 ^ 64) ≡ true) × ((narrow m w.word ≡ true) × (ok m w.word ≡ true)))
-
-  wires_wanted : AllByRecursion Wanted c.wires
-  wires_wanted =
-      all_map Wanted (wire m) (wire_names m) (weaker (λ n. is_there m n ≡ true) (λ n. Wanted (wire m n)) (wire_names m)
-      (λ n is. (wider n is, (wire_short n is, (wire_narrow u m rules p.over n is, wire_ok m rules n is)))) (wires_there m rules))
-
-  told_wires : AllByRecursion (λ w. AreSpelled scope (wire_tokens w)) c.wires
-  told_wires =
-      weaker (λ w. IsWrittenWire (signal_width m) (store_width m) w × Wanted w) (λ w. AreSpelled scope (wire_tokens w)) c.wires
-      (λ w h. (h.1.0, (h.1.1.0, spelled m has wider w.word h.1.1.1.0 h.0.word.sized h.1.1.1.1)))
-      (all_and (IsWrittenWire (signal_width m) (store_width m)) Wanted c.wires plain.wires wires_wanted)
-
-  abbrev Kept : Register Named Store → Type 0
-  Kept r =
-      (has r.name ≡ true) × ((nat_lt r.width (2 ^ 64) ≡ true) × (((narrow m r.enable ≡ true) × (ok m r.enable ≡ true))
-      × ((narrow m r.next ≡ true) × (ok m r.next ≡ true))))
-
-  registers_kept : AllByRecursion Kept c.registers
-  registers_kept =
-      all_map Kept (register m) (register_names m) (weaker (λ n. is_there m n ≡ true) (λ n. Kept (register m n)) (register_names m)
-      (λ n is. (
-        wider n is,
-        (
-          register_short n,
-          (
-            (enabled_narrow u m rules p.over n, enabled_ok m n),
-            (register_narrow u m rules p.over n, register_ok m n is),
-          ),
-        ),
-      )) (registers_there m rules))
-
-  told_registers : AllByRecursion (λ r. AreSpelled scope (register_tokens r)) c.registers
-  told_registers =
-      weaker (λ r. IsWrittenRegister (signal_width m) (store_width m) r × Kept r) (λ r. AreSpelled scope (register_tokens r)) c.registers
-      (λ r h. (
-        h.1.0,
-        (
-          h.1.1.0,
-          all_append (λ t. has_token scope t ≡ true) (tokens_in r.enable) (tokens_in r.next)
-              (spelled m has wider r.enable h.1.1.1.0.0 h.0.enable.sized h.1.1.1.0.1)
-              (spelled m has wider r.next h.1.1.1.1.0 h.0.next.sized h.1.1.1.1.1),
-        ),
-      ))
-      (all_and (IsWrittenRegister (signal_width m) (store_width m)) Kept c.registers plain.registers registers_kept)
-
   -- ---- memories
-
-  -- a write port
-  port_spelled : (size : ℕ) (test : Op → Bool) → IsWrittenPort (signal_width m) (store_width m) 32 (store_port m size test)
-      → AreSpelled scope (port_tokens (Some (store_port m size test)))
-  port_spelled size test is =
-      let port = store_port m size test in
-      let at = of_start m test Operand (λ unit less. less) in
-      all_append (λ t. has_token scope t ≡ true) (tokens_in port.enable) (tokens_in port.address ++ tokens_in port.word)
-      (spelled m has wider port.enable (enable_narrow u m rules p.over size test) is.enable.sized
-      (and_from (ok m (some_start m test)) (ok m (word_of_start m test (λ unit. Signal (Operand unit))) && true) (some_ok m test)
-      (and_from (ok m (word_of_start m test (λ unit. Signal (Operand unit)))) true at refl)))
-      (all_append (λ t. has_token scope t ≡ true) (tokens_in port.address) (tokens_in port.word)
-      (spelled m has wider port.address (address_narrow u m rules p.over size test) is.address.sized at)
-      (spelled m has wider port.word (word_narrow u m rules p.over size test) is.word.sized (of_start m test Trigger (λ unit less. less))))
 
   code_many : nat_lt (length (code_words m code)) (2 ^ 64) ≡ true
   code_many =
@@ -223,48 +111,136 @@ module _ (u : Units) (l m : Machine) (code : Program) (memory : List ℕ) (p : I
   stores_there Data = refl
   stores_there Frame = refl
 
-  pub told_circuit : IsToldCircuit (names_of l) scope same_signal same_store (signal_width m) (store_width m) c
-  told_circuit = record {
-    plain = plain;
-    closed = circuit_is_closed m code memory rules;
-    stores = λ s is. stores_there s;
-    wires = told_wires;
-    registers = told_registers;
-    memories = (
-      record { tokens = (refl, (word_short, (code_many, tt))); words = code_fits; kept = refl },
-      (
-        record {
-          tokens = (refl, (refl, (data_many, port_spelled m.data_words (same_op Stw) plain.memories.1.0.port)));
-          words = short_test memory p.words;
-          kept = refl;
-        },
+  port_here : (size : ℕ) (test : Op → Bool) → PortHere m has (store_port m size test)
+  port_here size test =
+      (enable_narrow u m rules p.over size test, (address_narrow u m rules p.over size test, word_narrow u m rules p.over size test))
+
+  -- A circuit with these memories is one that a text tells whole.
+  told_with : (signal : Named → ℕ) (d : Circuit Named Store) → d.memories ≡ c.memories → IsPlain signal (store_width m) d
+      → IsClosed same_signal d → AreHere m has d → IsToldCircuit (names_of l) scope same_signal same_store signal (store_width m) d
+  told_with signal d same plain closed here =
+      told_whole m has signal d plain closed here l
+      (λ s. ap (λ (xs : List (Memory Named Store)). list_any (λ x. same_store x.name s) xs) same ∙ stores_there s)
+      (subst (AllByRecursion (IsToldMemory (names_of l) scope)) (sym same)
+      (memories (subst (AllByRecursion (IsWrittenMemory signal (store_width m))) same plain.memories)
+      (subst (AllByRecursion (λ (x : Memory Named Store). PortReads (has_signal same_signal d) x.port)) same closed.memories)))
+    where
+      memories : AllByRecursion (IsWrittenMemory signal (store_width m)) c.memories
+          → AllByRecursion (λ (x : Memory Named Store). PortReads (has_signal same_signal d) x.port) c.memories
+          → AllByRecursion (IsToldMemory (names_of l) scope) c.memories
+      memories written reads = (
+        record { tokens = (refl, (word_short u m code memory p has wider, (code_many, tt))); words = code_fits; kept = refl },
         (
           record {
-            tokens = (refl, (refl, (frame_many, port_spelled m.frame_words (same_op Stf) plain.memories.1.1.0.port)));
-            words = zeros_test m.frame_words;
+            tokens = (
+              refl,
+              (
+                refl,
+                (
+                  data_many,
+                  port_spelled m has signal d plain closed here 32 (store_port m m.data_words (same_op Stw))
+                      (port_here m.data_words (same_op Stw)) written.1.0.port reads.1.0,
+                ),
+              ),
+            );
+            words = short_test memory p.words;
             kept = refl;
           },
-          tt,
+          (
+            record {
+              tokens = (
+                refl,
+                (
+                  refl,
+                  (
+                    frame_many,
+                    port_spelled m has signal d plain closed here 32 (store_port m m.frame_words (same_op Stf))
+                        (port_here m.frame_words (same_op Stf)) written.1.1.0.port reads.1.1.0,
+                  ),
+                ),
+              );
+              words = zeros_test m.frame_words;
+              kept = refl;
+            },
+            tt,
+          ),
         ),
-      ),
-    );
-  }
+      )
+
+  -- ---- the circuits of the machine
+
+  pub told_circuit : IsToldCircuit (names_of l) scope same_signal same_store (signal_width m) (store_width m) c
+  told_circuit =
+      told_with (signal_width m) c refl (circuit_is_plain m code memory rules).0 (circuit_is_closed m code memory rules)
+      (plain_here u m code memory p has wider)
+
+  pub told_trap : IsToldCircuit (names_of l) scope same_signal same_store (trap_signal_width m) (store_width m) (trap_circuit m code memory)
+  told_trap =
+      told_with (trap_signal_width m) (trap_circuit m code memory) refl (trap_is_plain m code memory rules p.legal).0
+      (trap_is_closed m code memory rules) (trap_here u m code memory p has wider)
+
+  whole_here : (faults : Bool) → AreHere m has (whole faults m code memory)
+  whole_here true = trap_here u m code memory p has wider
+  whole_here false = plain_here u m code memory p has wider
+
+  same_memories : (faults : Bool) → (whole faults m code memory).memories ≡ c.memories
+  same_memories true = refl
+  same_memories false = refl
+
+  pub told_boxed : (leaves : ℕ → Bool) (faults : Bool)
+      → IsToldCircuit (names_of l) scope same_signal same_store (boxed_signal_width m) (store_width m) (boxed m leaves (whole faults m code memory))
+  told_boxed leaves faults =
+      told_with (boxed_signal_width m) (boxed m leaves (whole faults m code memory)) (same_memories faults)
+      (boxed_is_plain m leaves faults code memory rules p.legal).0 (boxed_is_closed m leaves faults code memory rules)
+      (boxed_here u m code memory p has wider leaves (whole faults m code memory) (whole_here faults))
+
+  pub declared_shown : (leaves : ℕ → Bool) → AreDeclared scope (box_inputs m leaves)
+  declared_shown leaves =
+      all_weaker (InputHere m has) _ (box_inputs m leaves) (λ i h. (h.0, (h.1, tt))) (shown_here u m code memory p has wider leaves)
 
 -- what has a name by so many parts has one by as many
-as_named : (m n : Machine) → AreCalledAlike m n → (k : Named)
-    → is_named (length n.buses) (length n.files) (length n.imms) (length n.units) k ≡ true
-    → is_named (length m.buses) (length m.files) (length m.imms) (length m.units) k ≡ true
+as_named : (m n : Machine) → AreCalledAlike m n → (k : Named) → own n k ≡ true → own m k ≡ true
 as_named m n alike k is =
     ap (λ b. is_named b (length m.files) (length m.imms) (length m.units) k) (as_many (λ b. b.name) m.buses n.buses alike.buses)
     ∙ ap (λ f. is_named (length n.buses) f (length m.imms) (length m.units) k) (as_many (λ f. f.name) m.files n.files alike.files)
     ∙ ap (λ i. is_named (length n.buses) (length n.files) i (length m.units) k) (as_many (λ i. i.name) m.imms n.imms alike.imms)
     ∙ ap (λ v. is_named (length n.buses) (length n.files) (length n.imms) v k) (as_many (λ v. v.name) m.units n.units alike.units) ∙ is
 
+-- ---- laws
+
 pub one_text : OneText
 one_text u m n code other memory other_memory functions p q alike apart is =
-    let has : Named → Bool = is_named (length m.buses) (length m.files) (length m.imms) (length m.units) in
-    one_circuit Named Store (names_of m) (scope_of has) (are_names m p.rules) same_signal tells same_store tells_store functions apart
+    one_circuit Named Store (names_of m) (scope_of (own m)) (are_names m p.rules) same_signal tells same_store tells_store functions apart
     (signal_width m) (signal_width n) (store_width m) (store_width n) (circuit_of m code memory) (circuit_of n other other_memory)
-    (told_circuit u m m code memory p has (there_named m p.rules))
-    (told_circuit u m n other other_memory q has (λ k there. as_named m n alike k (there_named n q.rules k there))) refl refl
+    (told_circuit u m m code memory p (own m) (λ k named. named)) (told_circuit u m n other other_memory q (own m) (as_named m n alike)) refl refl
     (is ∙ sym (ap (λ names. parts_text names functions (circuit_of n other other_memory)) (same_names m n alike)))
+
+pub one_trap_text : OneTrapText
+one_trap_text u m n code other memory other_memory functions p q alike apart is =
+    one_circuit Named Store (names_of m) (scope_of (own m)) (are_names m p.rules) same_signal tells same_store tells_store functions apart
+    (trap_signal_width m) (trap_signal_width n) (store_width m) (store_width n) (trap_circuit m code memory) (trap_circuit n other other_memory)
+    (told_trap u m m code memory p (own m) (λ k named. named)) (told_trap u m n other other_memory q (own m) (as_named m n alike)) refl refl
+    (is ∙ sym (ap (λ names. parts_text names functions (trap_circuit n other other_memory)) (same_names m n alike)))
+
+pub one_boxed_text : OneBoxedText
+one_boxed_text u m n leaves others faults code other memory other_memory functions modules p q alike apart behind is =
+    one_circuit_beside Named Store (names_of m) (scope_of (own m)) (are_names m p.rules) same_signal tells same_store tells_store functions modules
+    apart behind (boxed_signal_width m) (boxed_signal_width n) (store_width m) (store_width n)
+    (boxed m leaves (whole faults m code memory)) (boxed n others (whole faults n other other_memory))
+    (circuit_of m code memory).inputs (box_inputs m leaves) (box_inputs n others)
+    (told_boxed u m m code memory p (own m) (λ k named. named) leaves faults)
+    (told_boxed u m n other other_memory q (own m) (as_named m n alike) others faults)
+    (given m code memory leaves faults) (given n other other_memory others faults)
+    (declared_shown u m m code memory p (own m) (λ k named. named) leaves)
+    (declared_shown u m n other other_memory q (own m) (as_named m n alike) others) (outputs faults)
+    (is ∙ sym (ap (λ names. parts_beside names functions (box_inputs n others) modules (boxed n others (whole faults n other other_memory)))
+    (same_names m n alike)))
+  where
+    given : (m : Machine) (code : Program) (memory : List ℕ) (leaves : ℕ → Bool) (faults : Bool)
+        → (boxed m leaves (whole faults m code memory)).inputs ≡ (circuit_of m code memory).inputs ++ box_inputs m leaves
+    given m code memory leaves true = refl
+    given m code memory leaves false = refl
+
+    outputs : (faults : Bool) → (whole faults m code memory).outputs ≡ (whole faults n other other_memory).outputs
+    outputs true = refl
+    outputs false = refl

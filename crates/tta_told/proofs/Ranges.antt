@@ -1,8 +1,8 @@
 -- What is in the circuit of a machine has a name.
-use Rattle.std.proofs.Common.{◌≡◌, ℕ, ◌<◌, ◌≤◌, ◌^◌, Bool, true, false, ◌&&◌, nat_lt, nat_le, List, [], ◌∷◌, length, slice_get, Option, Some, None, refl, ap, arith}
+use Rattle.std.proofs.Common.{◌≡◌, ℕ, ◌-◌, ◌<◌, ◌≤◌, ◌^◌, Bool, true, false, ◌&&◌, nat_lt, nat_le, List, [], ◌∷◌, length, slice_get, Option, Some, None, refl, ap, arith}
 use Rattle.std.specs.Prelude.{is_some, option_and_then}
 use Rattle.std.specs.Option.{option_map_or}
-use Rattle.std.specs.List.{list_all}
+use Rattle.std.specs.List.{list_all, range_with_len, AllByRecursion}
 use Rattle.std.proofs.lemmas.Bool.{and_parts, and_from, lt-ltb, ltb-true, leb-true, false≢true}
 use Rattle.tta_list.proofs.Lists.{list_all_one}
 use Rattle.tta_arch.specs.Machine.{Machine}
@@ -15,13 +15,17 @@ use Rattle.tta_arch.specs.declared.parts.UnitOp.{UnitOp}
 use Rattle.tta_arch.specs.declared.parts.Op.{Op}
 use Rattle.tta_arch.specs.declared.parts.Op.TheVariants.{Ldw, Stw, Ldf, Stf, Out, Take, Set}
 use Rattle.tta_arch.proofs.Sizes.{small_file, small_imm, small_unit}
-use Rattle.tta_hardware.specs.Signals.{GuardOf, IsShort, SourceOf, ShortOf, DestOf, Signal as Named, Underway, Keeps, IsDue, Due, HasBegun, Raw, IsInside, Port, Fetched, Word, Acts, Starts, Trigger, Operand, Watches, Boxes}
+use Rattle.tta_hardware.specs.Signals.{GuardOf, IsShort, SourceOf, ShortOf, DestOf, Signal as Named, Underway, Keeps, IsDue, Due, HasBegun, Raw, IsInside, Port, Fetched, Word, Acts, Starts, Trigger, Operand, HasWord, IsPast, LacksRegister, LacksPort, LacksOperand, Clashes, FaultNow, Watches, Shows, IsFrom, Boxes}
 use Rattle.tta_hardware.specs.Wires.{longest, longest_in}
 use Rattle.tta_hardware.proofs.Bits.{delay_few}
 use Rattle.tta_hardware.proofs.Bringing.{within_list}
 use Rattle.tta_hardware.proofs.There.{is_there, is_load_at, can_be_due}
 use Rattle.tta_hardware.proofs.OnlyThere.{load_of, unit_of}
-use Rattle.tta_told.proofs.Decoding.{is_named}
+use Rattle.tta_hardware.proofs.RegistersFit.{weaker}
+use Rattle.tta_hardware.proofs.PlainWires.{below_all}
+use Rattle.tta_trap.proofs.Present.{trap_there}
+use Rattle.tta_boxed.proofs.Registers.{unit_of as found_unit}
+use Rattle.tta_told.proofs.HasName.{is_named}
 
 latency_few : (o : UnitOp) → fits_kind o ≡ true → o.latency ≤ 16
 latency_few o fits = by o.op fits where
@@ -125,3 +129,34 @@ module _ (m : Machine) (rules : IsMachine m) where
   there_named (Watches w) is = absurd (false≢true is)
   there_named (Boxes b) is = absurd (false≢true is)
   there_named n is = refl
+
+  -- what a circuit has more that tells the first fault
+  pub trap_named : (n : Named) → trap_there m n ≡ true → has n ≡ true
+  trap_named (Watches (HasWord p)) is = there_named (Keeps p) is
+  trap_named (Watches IsPast) is = refl
+  trap_named (Watches (LacksRegister bus)) is = is
+  trap_named (Watches (LacksPort bus)) is = is
+  trap_named (Watches (LacksOperand unit)) is = is
+  trap_named (Watches (Clashes unit)) is = is
+  trap_named (Watches FaultNow) is = refl
+  trap_named n is = there_named n is
+
+  -- ---- what a circuit has more that leaves operations to modules
+
+  latency_at : (unit op : ℕ) (o : UnitOp) → op_at m unit op ≡ Some o → o.latency ≤ 16
+  latency_at unit op o at = found_unit m (λ op. false) (o.latency ≤ 16) unit op o at (λ x unit_at op_is.
+      let unit_is = list_all_one (is_unit m.sockets) m.units unit x rules.units unit_at in
+      let fits = list_all_one (is_unit_op x) x.ops op o (and_parts _ _ (and_parts _ _ unit_is).0).1 op_is in
+      latency_few o (and_parts _ _ (and_parts _ _ fits).0).0)
+
+  pub shown_named : (unit op : ℕ) (o : UnitOp) → op_at m unit op ≡ Some o → has (Boxes (Shows unit op)) ≡ true
+  shown_named unit op o at = op_named unit op (ap is_some at)
+
+  pub from_named : (unit op : ℕ) (o : UnitOp) → op_at m unit op ≡ Some o
+      → AllByRecursion (λ d. has (Boxes (IsFrom unit op d)) ≡ true) (range_with_len 1 (o.latency - 1))
+  from_named unit op o at =
+      let few = latency_at unit op o at in
+      weaker (λ d. d < 17) (λ d. has (Boxes (IsFrom unit op d)) ≡ true) (range_with_len 1 (o.latency - 1))
+      (λ d less. and_from (nat_lt unit (length m.units) && nat_lt op (2 ^ 64)) (nat_lt d (2 ^ 64)) (op_named unit op (ap is_some at))
+      (small d 17 less (omega arith)))
+      (below_all 17 1 (o.latency - 1) (omega (arith, few)))

@@ -111,7 +111,7 @@ module _ (u : Units) (m : Machine) (rules : IsMachine m) (over : StandsOver u m)
       (all_each (λ (o : ℕ × ℕ). (narrow m (Signal (Starts o.0 o.1)) ≡ true) × (narrow m (Signal (f o.0)) ≡ true)) (all_ops m test)
       (λ o. (refl, refl))) refl
 
-  fresh_narrow : (unit latency : ℕ) (e : Expression) → narrow m e ≡ true → narrow m (fresh m unit latency e) ≡ true
+  pub fresh_narrow : (unit latency : ℕ) (e : Expression) → narrow m e ≡ true → narrow m (fresh m unit latency e) ≡ true
   fresh_narrow unit latency e rest =
       first_narrow m (λ (o : ℕ × UnitOp). Signal (HasBegun unit o.0)) (λ o. read_word unit o.0) (loads m unit latency) e
       (all_each (λ (o : ℕ × UnitOp). (narrow m (Signal (HasBegun unit o.0)) ≡ true) × (narrow m (read_word unit o.0) ≡ true))
@@ -127,7 +127,7 @@ module _ (u : Units) (m : Machine) (rules : IsMachine m) (over : StandsOver u m)
         let less = within_list u.names id.0 (ap is_some at) in
         lt-ltb id.0 (2 ^ 64) (omega (arith, few, less))
 
-  result_narrow : (unit : ℕ) (k : ℕ) (o : UnitOp) → op_at m unit k ≡ Some o → narrow m (result_of m unit o) ≡ true
+  pub result_narrow : (unit : ℕ) (k : ℕ) (o : UnitOp) → op_at m unit k ≡ Some o → narrow m (result_of m unit o) ≡ true
   result_narrow unit k o at = by o.op refl where
     operand : (b : Bool) → narrow m (if b then Signal (Operand unit) else nothing) ≡ true
     operand true = refl
@@ -173,7 +173,7 @@ module _ (u : Units) (m : Machine) (rules : IsMachine m) (over : StandsOver u m)
 
   -- ---- control
 
-  address_short : nat_le m.control.address 64 ≡ true
+  pub address_short : nat_le m.control.address 64 ≡ true
   address_short = let a = address_most m rules in le-leb m.control.address 64 (omega (arith, a))
 
   next_narrow : narrow m (next_pc m) ≡ true

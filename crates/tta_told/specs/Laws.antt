@@ -1,5 +1,5 @@
 -- The text of a machine with its code as a circuit is that of one circuit.
-use Rattle.std.specs.Prelude.{◌≡◌, ℕ, ◌^◌, ◌<◌, true, List, length, map}
+use Rattle.std.specs.Prelude.{◌≡◌, ℕ, ◌^◌, ◌<◌, Bool, true, List, length, map}
 use Rattle.std.specs.List.{AllByRecursion}
 use Rattle.tta_ops.specs.Units.{Units}
 use Rattle.tta_arch.specs.Machine.{Machine}
@@ -8,8 +8,11 @@ use Rattle.tta_arch.specs.Over.{StandsOver}
 use Rattle.tta_code.specs.declared.code.Code.{Code}
 use Rattle.tta_code.specs.Legal.{IsLegalCode}
 use Rattle.tta_hardware.specs.Hardware.{circuit_of}
-use Rattle.tta_verilog.specs.Circuits.{parts_text}
-use Rattle.tta_verilog.specs.Laws.{begins_apart}
+use Rattle.tta_trap.specs.Trap.{trap_circuit}
+use Rattle.tta_boxed.specs.Boxed.{box_inputs, boxed}
+use Rattle.tta_boxed.specs.Theorem.{whole}
+use Rattle.tta_verilog.specs.Circuits.{parts_text, parts_beside}
+use Rattle.tta_verilog.specs.Laws.{begins_apart, begins_behind}
 use Rattle.tta_names.specs.Names.{names_of}
 
 -- A machine over some units with code that it can carry out, and with the words that its data space begins with.
@@ -35,3 +38,24 @@ OneText =
     → IsProgrammed u m code memory → IsProgrammed u n other other_memory → AreCalledAlike m n → begins_apart functions ≡ true
     → parts_text (names_of m) functions (circuit_of m code memory) ≡ parts_text (names_of n) functions (circuit_of n other other_memory)
     → circuit_of m code memory ≡ circuit_of n other other_memory
+
+-- The same of circuits that tell the first fault.
+abbrev pub OneTrapText : Type 0
+OneTrapText =
+    (u : Units) (m n : Machine) (code other : Code) (memory other_memory : List ℕ) (functions : List ℕ)
+    → IsProgrammed u m code memory → IsProgrammed u n other other_memory → AreCalledAlike m n → begins_apart functions ≡ true
+    → parts_text (names_of m) functions (trap_circuit m code memory)
+    ≡ parts_text (names_of n) functions (trap_circuit n other other_memory)
+    → trap_circuit m code memory ≡ trap_circuit n other other_memory
+
+-- The same of circuits that leave operations to modules, and either both tell faults or both do not: the text, with these functions and
+-- these modules, tells also which operations are left, for it declares what the module of each shows.
+abbrev pub OneBoxedText : Type 0
+OneBoxedText =
+    (u : Units) (m n : Machine) (leaves others : ℕ → Bool) (faults : Bool) (code other : Code) (memory other_memory : List ℕ)
+    (functions modules : List ℕ)
+    → IsProgrammed u m code memory → IsProgrammed u n other other_memory → AreCalledAlike m n
+    → begins_apart functions ≡ true → begins_behind modules ≡ true
+    → parts_beside (names_of m) functions (box_inputs m leaves) modules (boxed m leaves (whole faults m code memory))
+    ≡ parts_beside (names_of n) functions (box_inputs n others) modules (boxed n others (whole faults n other other_memory))
+    → boxed m leaves (whole faults m code memory) ≡ boxed n others (whole faults n other other_memory)

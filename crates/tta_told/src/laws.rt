@@ -1,8 +1,18 @@
 //! Laws of texts of machines. A law is a function that does nothing, and whose contract is the law.
 
-ghost use Rattle.tta_told.specs.Laws.{OneText};
+ghost use Rattle.tta_told.specs.Laws.{OneBoxedText, OneText, OneTrapText};
 
 /// The text of a machine with its code is that of at most one circuit.
 pub fn one_text()
     ensures { OneText }
+{}
+
+/// The text of a circuit that tells the first fault is that of at most one circuit.
+pub fn one_trap_text()
+    ensures { OneTrapText }
+{}
+
+/// The text of a circuit that leaves operations to modules is that of at most one circuit.
+pub fn one_boxed_text()
+    ensures { OneBoxedText }
 {}

@@ -3,4 +3,4 @@
 
 mod laws;
 
-pub use laws::one_text;
+pub use laws::{one_boxed_text, one_text, one_trap_text};
