@@ -3,15 +3,16 @@
 use crate::awaited::flow_paths;
 use crate::clock::{IssueEstimate, end_of};
 use crate::edges::{Edge, flows, number_of, overwrites};
-use crate::graph::{Graph, at};
+use crate::graph::{Graph, at, signed};
 use crate::groups::{between, groups_of, is_chain, starts_of};
+use crate::latest::latest_paths;
 use crate::marks::StampedMap;
 use crate::ready::{Ready, Ties};
 use crate::uses::{Uses, all_uses};
 use std::alloc::{AllocError, Global};
 use tta_arch::Machine;
-use tta_moves::Item;
 use tta_moves::parts::is_control;
+use tta_moves::{Item, PlacedItem};
 
 /// By what an order is chosen.
 #[derive(Clone, Copy, Debug, PartialEq, Eq)]
@@ -60,6 +61,22 @@ fn counted(alloc: Global, count: usize) -> Result<Vec<usize>, AllocError> {
     Ok(numbers)
 }
 
+/// The numbers of items, of those that may be next always that with the longest path. The only error
+/// is out of memory.
+fn by_paths(
+    alloc: Global,
+    graph: &Graph,
+    paths: &[i32],
+    last: Option<usize>,
+    ties: Ties,
+) -> Result<Vec<usize>, AllocError> {
+    let mut ready = Ready::new(alloc, paths.len(), last, None, ties)?;
+    let order = graph.in_turn(alloc, paths, &mut ready);
+    // Dropped here as a whole, so that no part of it is left to drop at the end.
+    drop(ready);
+    order
+}
+
 /// The numbers of items in the order of single items. The only error is out of memory.
 fn by_items(
     alloc: Global,
@@ -71,11 +88,7 @@ fn by_items(
     let edges = edges_of(alloc, marks, all)?;
     let graph = Graph::of(alloc, all.len(), edges.as_slice())?;
     let paths = graph.paths(own_paths(alloc, all)?);
-    let mut ready = Ready::new(alloc, all.len(), last, None, ties)?;
-    let order = graph.in_turn(alloc, paths.as_slice(), &mut ready);
-    // Dropped here as a whole, so that no part of it is left to drop at the end.
-    drop(ready);
-    order
+    by_paths(alloc, &graph, paths.as_slice(), last, ties)
 }
 
 /// Lets copies of results show as early as the results do: what reads them will mostly read the
@@ -85,14 +98,6 @@ fn bypass_copies(all: &mut Vec<Uses>) {
         if u.is_copy {
             u.shows = 0;
         }
-    }
-}
-
-/// A path as a number with a sign.
-fn signed(path: u32) -> i32 {
-    match i32::try_from(path) {
-        Ok(k) => k,
-        Err(_) => i32::MAX,
     }
 }
 
@@ -220,4 +225,27 @@ pub fn chosen(
         Rule::Groups => by_groups(alloc, marks, hub, &mut all, is_ended, None),
         Rule::Cycles => by_groups(alloc, marks, hub, &mut all, is_ended, buses),
     }
+}
+
+/// The numbers of the items of a placed list in the order in which they stand where each stands as late
+/// as it may, in no more cycles; of such the last of the list first. The only error is out of memory.
+pub fn by_latest(
+    alloc: Global,
+    marks: &mut StampedMap,
+    m: &Machine,
+    items: &[Item],
+    placed: &[PlacedItem],
+) -> Result<Vec<usize>, AllocError> {
+    let all = all_uses(alloc, m, items)?;
+    let edges = edges_of(alloc, marks, all.as_slice())?;
+    let graph = Graph::of(alloc, all.len(), edges.as_slice())?;
+    let buses = number_of(m.buses.len());
+    let paths = latest_paths(alloc, marks, &graph, all.as_slice(), placed, buses)?;
+    by_paths(
+        alloc,
+        &graph,
+        paths.as_slice(),
+        control_of(items),
+        Ties::Last,
+    )
 }

@@ -1,12 +1,10 @@
 //! When groups of items could begin, as far as is guessed while an order is chosen.
 
+use crate::bus_slots::BusSlots;
 use crate::graph::at;
 use crate::marks::StampedMap;
 use crate::uses::Uses;
 use std::alloc::{AllocError, Global};
-
-/// How many cycles are looked at for one that has a bus.
-const FAR: u32 = 64;
 
 /// How many items of a group are looked at for the first that starts an operation.
 const DEEP: usize = 16;
@@ -27,11 +25,7 @@ pub struct IssueEstimate<'c> {
     starts: &'c [u32],
     /// From which cycle on each channel shows, and each unit is free.
     shown: &'c mut StampedMap,
-    /// How many moves each cycle has.
-    moves: Vec<u32>,
-    buses: u32,
-    /// Each cycle before this one has a move on each bus.
-    full: u32,
+    slots: BusSlots,
 }
 
 impl<'c> IssueEstimate<'c> {
@@ -45,14 +39,12 @@ impl<'c> IssueEstimate<'c> {
         buses: u32,
     ) -> Result<Self, AllocError> {
         shown.begin();
-        let moves = Vec::with_capacity(alloc, all.len())?;
+        let slots = BusSlots::new(alloc, all.len(), buses)?;
         Ok(IssueEstimate {
             all,
             starts,
             shown,
-            moves,
-            buses,
-            full: 0,
+            slots,
         })
     }
 
@@ -80,18 +72,6 @@ impl<'c> IssueEstimate<'c> {
         read.max(operand).max(own).max(self.since(u.trigger))
     }
 
-    /// The first cycle from one on that has a bus.
-    fn with_bus(&self, cycle: u32) -> u32 {
-        let first = cycle.max(self.full);
-        let end = first.saturating_add(FAR);
-        for c in first..end {
-            if at(self.moves.as_slice(), c as usize) < self.buses {
-                return c;
-            }
-        }
-        end
-    }
-
     /// The cycle in which a group's first operation could start.
     pub fn start_of(&self, group: usize) -> u32 {
         let first = at(self.starts, group) as usize;
@@ -106,25 +86,7 @@ impl<'c> IssueEstimate<'c> {
                 break;
             }
         }
-        self.with_bus(cycle)
-    }
-
-    /// One more move in a cycle.
-    fn book(&mut self, cycle: u32) -> Result<(), AllocError> {
-        let n = cycle as usize;
-        if self.moves.len() <= n {
-            self.moves.resize(n.saturating_add(1), 0)?;
-        }
-        if n < self.moves.len() {
-            self.moves[n] = self.moves[n].saturating_add(1);
-        }
-        for _ in 0..FAR {
-            if at(self.moves.as_slice(), self.full as usize) < self.buses {
-                break;
-            }
-            self.full = self.full.saturating_add(1);
-        }
-        Ok(())
+        self.slots.with_bus(cycle)
     }
 
     /// A channel shows what was brought to it from a cycle on.
@@ -141,9 +103,9 @@ impl<'c> IssueEstimate<'c> {
         let cycle = if u.is_copy {
             least
         } else {
-            self.with_bus(least)
+            self.slots.with_bus(least)
         };
-        self.book(cycle)?;
+        self.slots.book(cycle)?;
         self.show(u.written, cycle.saturating_add(u32::from(u.shows)));
         self.show(u.trigger, cycle.saturating_add(1));
         Ok(())

@@ -27,6 +27,14 @@ pub fn path_at(list: &[i32], n: usize) -> i32 {
     }
 }
 
+/// A path as a number with a sign.
+pub fn signed(path: u32) -> i32 {
+    match i32::try_from(path) {
+        Ok(k) => k,
+        Err(_) => i32::MAX,
+    }
+}
+
 /// Where an edge leads, and how many cycles later that comes at least.
 #[derive(Clone, Copy)]
 struct Link {
@@ -97,7 +105,7 @@ impl Graph {
     }
 
     /// The longest path from a node to the end, over its edges, and no shorter than its own.
-    fn path(&self, paths: &[i32], node: usize, own: i32) -> i32 {
+    pub fn path(&self, paths: &[i32], node: usize, own: i32) -> i32 {
         let mut path = own;
         for k in self.from(node)..self.to(node) {
             let e = self.link(k);

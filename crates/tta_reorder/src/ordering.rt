@@ -5,12 +5,12 @@ ghost use Rattle.tta_moves.specs.Slots.{is_list};
 ghost use Rattle.tta_optim.specs.Kept.{IsEquivalent};
 
 use crate::agree::{Checker, count_up, settled};
-use crate::choice::{Rule, chosen};
+use crate::choice::{Rule, by_latest, chosen};
 use crate::marks::StampedMap;
 use std::alloc::{AllocError, Global};
 use tta_arch::Machine;
 use tta_connect::TargetMachine;
-use tta_moves::{BlockList, Item};
+use tta_moves::{BlockList, Item, Placed};
 
 /// The items from a number on. The only error is out of memory.
 fn items_from(alloc: Global, items: &[Item], front: usize) -> Result<Vec<Item>, AllocError> {
@@ -86,10 +86,47 @@ impl Orders {
         ensures { IfOk result (λ o. IfSome o (λ r. IsEquivalent on.now.machine.now b.now r)) }
     {
         let numbers = self.numbers(alloc, on.machine, b.items.as_slice(), rule)?;
-        if count_up(numbers.as_slice(), numbers.len()) {
+        self.checked(alloc, b, on, numbers.as_slice())
+    }
+
+    /// The list of a block in the order of these numbers; none where that is the list's own, or is not
+    /// known to be an order. It fails only where there is no memory.
+    fn checked(
+        &mut self,
+        alloc: Global,
+        b: &BlockList,
+        on: &TargetMachine<'_>,
+        numbers: &[usize],
+    ) -> Result<Option<BlockList>, AllocError>
+        requires list { is_list on.now.machine.now b.now.items ≡ true }
+        ensures { IfOk result (λ o. IfSome o (λ r. IsEquivalent on.now.machine.now b.now r)) }
+    {
+        if count_up(numbers, numbers.len()) {
             return Ok(None);
         }
-        let r = self.checker.in_order(alloc, b, on, numbers.as_slice())?;
+        let r = self.checker.in_order(alloc, b, on, numbers)?;
         Ok(r)
+    }
+
+    /// The list of a block by the latest cycles of a placement of it; none where that is the list's own
+    /// order, or is not known to be one. It fails only where there is no memory.
+    pub fn by_latest(
+        &mut self,
+        alloc: Global,
+        b: &BlockList,
+        on: &TargetMachine<'_>,
+        placed: &Placed,
+    ) -> Result<Option<BlockList>, AllocError>
+        requires list { is_list on.now.machine.now b.now.items ≡ true }
+        ensures { IfOk result (λ o. IfSome o (λ r. IsEquivalent on.now.machine.now b.now r)) }
+    {
+        let items = b.items.as_slice();
+        // Items that may wait stay where they are, so a list that has some is left as it is.
+        if settled(on.machine, items) > 0 {
+            return Ok(None);
+        }
+        let places = placed.items.as_slice();
+        let numbers = by_latest(alloc, &mut self.marks, on.machine, items, places)?;
+        self.checked(alloc, b, on, numbers.as_slice())
     }
 }
