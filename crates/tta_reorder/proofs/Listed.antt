@@ -1,7 +1,7 @@
 -- A list, item by item.
 use Rattle.std.proofs.Common.{◌≡◌, ℕ, zero, suc, ◌≤◌, true, false, List, [], ◌∷◌, Some, None, refl, ap, subst, arith, ◌∙◌}
 use Rattle.std.specs.Prelude.{not, ◌||◌, map, length, slice_get}
-use Rattle.std.proofs.lemmas.Bool.{and_parts, not-true}
+use Rattle.std.proofs.lemmas.Bool.{and_from, and_parts, not-true}
 use Rattle.tta_reorder.specs.Cited.{Units, Machine, Item, is_waiting, Held, effect_of, does, lacks, do_items, has_meaning}
 use Rattle.tta_moves.proofs.Places.{either}
 use Rattle.tta_optim.proofs.Copies.{first_means}
@@ -104,6 +104,13 @@ module _ (u : Units) (m : Machine) (addr : List ℕ) (back : ℕ) where
       (and_parts (is_waiting h.exit || not (lacks m h (effect_of addr y))) (has_meaning u m addr back (step h y) xs) ok).0
   means_at h (y ∷ xs) (suc n) x ok e =
       means_at (step h y) xs n x (and_parts (is_waiting h.exit || not (lacks m h (effect_of addr y))) (has_meaning u m addr back (step h y) xs) ok).1 e
+
+  -- and a list of which each item has what it needs, or that waits, has a meaning
+  pub means_from : (h : Held) (xs : List Item)
+      → ((n : ℕ) (x : Item) → slice_get xs n ≡ Some x → (is_waiting (state h xs n).exit || not (lacks m (state h xs n) (effect_of addr x))) ≡ true)
+      → has_meaning u m addr back h xs ≡ true
+  means_from h [] each = refl
+  means_from h (x ∷ xs) each = and_from _ _ (each 0 x refl) (means_from (step h x) xs (λ n y is. each (suc n) y is))
 
   -- a list that waits after some items stays as it is
   pub waits_still : (h : Held) (xs : List Item) (n : ℕ) → is_waiting (state h xs n).exit ≡ true → state h xs (length xs) ≡ state h xs n

@@ -1,17 +1,18 @@
 -- One item from two states that have the same in all channels that it asks for.
-use Rattle.std.proofs.Common.{◌≡◌, ℕ, zero, suc, Bool, true, false, List, [], ◌∷◌, ◌++◌, Option, Some, None, refl, sym, ap, subst, arith, ◌∙◌}
-use Rattle.std.specs.Prelude.{if◌then◌else◌, ◌==◌, ◌&&◌, ◌||◌, is_none, fold, slice_get, slice_set, slice_index, option_map}
+use Rattle.std.proofs.Common.{◌≡◌, ℕ, Bool, true, false, List, ◌∷◌, ◌++◌, Option, Some, None, refl, sym, ap, subst, arith, ◌∙◌}
+use Rattle.std.specs.Prelude.{if◌then◌else◌, ◌==◌, ◌&&◌, ◌||◌, is_none, fold, slice_index, option_map}
 use Rattle.std.specs.Option.{option_map_or, option_to_list}
 use Rattle.std.specs.List.{filter_map}
 use Rattle.std.proofs.lemmas.Bool.{and_from, and_parts, or_left, or_right}
 use Rattle.std.proofs.lemmas.Bool.Decides.{nat_tests}
-use Rattle.tta_reorder.specs.Cited.{Units, GuardRef, UnitOp, Op, Ldw, Stw, Ldf, Stf, Out, Take, Set, Machine, Target, Reg, Imm, Operand, Trigger, Control, Jumps, Calls, Halts, Effect, Brought, Place, KeptReg, KeptImm, KeptOperand, KeptRa, KeptPort, same_place, Written, kept, is_active, moved, has_unset, has_unset_guard, lacks_operand, op_at, has_result, Start, start_of, operand_of, operand_word, result_word, store_data, store_frame, put_out, take_in, write_of, control_of, ItemSource, Port, Address, Item, guard_of, source_of, target_of_item, place_of_source, place_written, is_at, guard_place, reads, writes, is_control, controls, is_unguarded, Exit, is_waiting, Held, linked, effect_of, read_held, result_at_once, acts, exit_after, does, lacks}
+use Rattle.tta_reorder.specs.Cited.{Units, GuardRef, UnitOp, Op, Ldw, Stw, Ldf, Stf, Out, Take, Set, Machine, Target, Reg, Imm, Operand, Trigger, Control, Jumps, Calls, Halts, Effect, Brought, Place, KeptReg, KeptImm, KeptOperand, KeptRa, KeptPort, same_place, Written, kept, is_active, moved, has_unset, has_unset_guard, lacks_operand, op_at, has_result, Start, start_of, operand_of, result_word, store_data, put_out, take_in, write_of, control_of, ItemSource, Port, Address, Item, guard_of, source_of, target_of_item, place_of_source, place_written, is_at, guard_place, reads, writes, is_control, controls, is_unguarded, Exit, is_waiting, Held, linked, effect_of, read_held, result_at_once, acts, exit_after, does, lacks}
 use Rattle.tta_arch.specs.declared.ends.Source.TheVariants as source
 use Rattle.tta_moves.proofs.Places.{either, same_self, kept_there}
 use Rattle.tta_optim.proofs.Copies.{sure_word}
 use Rattle.tta_reorder.specs.Channels.{Channel, Word, Data, Frame, Traffic, Ending, Division, part_with, part_of, starts, loads_frame, uses_data, uses_frame, stores_data, stores_frame, passes_words, operand_place, alters, asks, may_wait}
-use Rattle.tta_reorder.proofs.Carried.{SamePart, SameOn, LiesIn, UsesPart, carried_on, does_open}
+use Rattle.tta_reorder.proofs.Carried.{SameOn, LiesIn, UsesPart, carried_on, does_open}
 use Rattle.tta_moves.proofs.Steps.{active_by, unset_by, starting}
+use Rattle.tta_reorder.proofs.FrameParts.{index_by, frame_same, loads_uses, there_is}
 
 -- two states have the same in all channels that an item asks for
 abbrev pub SameAsked : Machine → Division → (n : ℕ) → Item → Held → Held → Type 0
@@ -201,88 +202,7 @@ word_same u m back h k (Trigger unit op) w p at stored frame rest = on (op_at m 
   on None at stored frame rest = absurd cc
   on (Some o) at stored frame rest = let two = shown o at in by o two.0 two.1 stored frame rest
 
--- ---- parts of the frame space
-
-index_by : (xs ys : List ℕ) (k : ℕ) → slice_get ys k ≡ slice_get xs k → slice_index ys k ≡ slice_index xs k
-index_by [] [] k e = refl
-index_by [] (y ∷ ys) zero e = absurd cc
-index_by [] (y ∷ ys) (suc k) e = index_by [] ys k e
-index_by (x ∷ xs) [] zero e = absurd cc
-index_by (x ∷ xs) [] (suc k) e = index_by xs [] k e
-index_by (x ∷ xs) (y ∷ ys) zero e = let same : y ≡ x = cc in same
-index_by (x ∷ xs) (y ∷ ys) (suc k) e = index_by xs ys k e
-
-none_set : (xs : List ℕ) (a v k : ℕ) → slice_get xs k ≡ None → slice_get (slice_set xs a v) k ≡ None
-none_set [] a v k e = e
-none_set (x ∷ xs) zero v zero e = absurd cc
-none_set (x ∷ xs) zero v (suc k) e = e
-none_set (x ∷ xs) (suc a) v zero e = absurd cc
-none_set (x ∷ xs) (suc a) v (suc k) e = none_set xs a v k e
-
-set_same : (xs ys : List ℕ) (a v k : ℕ) → slice_get ys k ≡ slice_get xs k → slice_get (slice_set ys a v) k ≡ slice_get (slice_set xs a v) k
-set_same [] ys a v k e = none_set ys a v k e
-set_same (x ∷ xs) [] a v k e = sym (none_set (x ∷ xs) a v k (sym e))
-set_same (x ∷ xs) (y ∷ ys) zero v zero e = refl
-set_same (x ∷ xs) (y ∷ ys) zero v (suc k) e = e
-set_same (x ∷ xs) (y ∷ ys) (suc a) v zero e = e
-set_same (x ∷ xs) (y ∷ ys) (suc a) v (suc k) e = set_same xs ys a v k e
-
--- the same operation leaves the same in a part
-store_same : (d : Division) (part : ℕ) (xs ys : List ℕ) (s : Start) → SamePart d part xs ys → SamePart d part (store_frame xs s) (store_frame ys s)
-store_same d part xs ys s same slot at = on s.does.op refl where
-  on : (o : Op) → s.does.op ≡ o → slice_get (store_frame ys s) slot ≡ slice_get (store_frame xs s) slot
-  on Ldw is = rw is (same slot at)
-  on Stw is = rw is (same slot at)
-  on Ldf is = rw is (same slot at)
-  on Out is = rw is (same slot at)
-  on Take is = rw is (same slot at)
-  on (Set id) is = rw is (same slot at)
-  on Stf is = rw is (set_same xs ys (operand_word s) s.word slot (same slot at))
-
-frame_same : (d : Division) (part : ℕ) (xs ys : List ℕ) (o : Option Start) → SamePart d part xs ys → SamePart d part (fold store_frame xs (option_to_list o)) (fold store_frame ys (option_to_list o))
-frame_same d part xs ys None same = same
-frame_same d part xs ys (Some s) same = store_same d part xs ys s same
-
-loads_uses : (o : Op) → loads_frame o ≡ true → uses_frame o ≡ true
-loads_uses Ldw e = absurd cc
-loads_uses Stw e = absurd cc
-loads_uses Ldf e = refl
-loads_uses Stf e = absurd cc
-loads_uses Out e = absurd cc
-loads_uses Take e = absurd cc
-loads_uses (Set id) e = absurd cc
-
-load_is : (o : Op) → loads_frame o ≡ true → o ≡ Ldf
-load_is Ldw e = absurd cc
-load_is Stw e = absurd cc
-load_is Ldf e = refl
-load_is Stf e = absurd cc
-load_is Out e = absurd cc
-load_is Take e = absurd cc
-load_is (Set id) e = absurd cc
-
--- a load that is started
-record IsLoad (m : Machine) (ws : Written) (t : Target) (w : ℕ) : Type 0 where
-  start : Start
-  is : start_of m ws (t, w) ≡ Some start
-  loads : start.does.op ≡ Ldf
-  word : start.word ≡ w
-
-there_is : (m : Machine) (ws : Written) (t : Target) (w : ℕ) → starts m loads_frame t ≡ true → IsLoad m ws t w
-there_is m ws (Reg f i) w e = absurd cc
-there_is m ws (Imm f i) w e = absurd cc
-there_is m ws (Operand unit) w e = absurd cc
-there_is m ws (Control kind) w e = absurd cc
-there_is m ws (Trigger unit op) w e = on (op_at m unit op) refl e where
-  on : (o : Option UnitOp) → op_at m unit op ≡ o → option_map_or loads_frame (option_map (λ o. o.op) o) false ≡ true
-      → IsLoad m ws (Trigger unit op) w
-  on None is e = absurd cc
-  on (Some o) is e = record {
-    start = record { unit = unit; does = o; operand = operand_of ws unit o; word = w };
-    is = ap (λ (q : Option UnitOp). option_map_or (λ o. starting ws unit w o) q None) is;
-    loads = load_is o.op e;
-    word = refl;
-  }
+-- ---- all that it changes
 
 -- the word that an item loads is the same
 loaded_same : (m : Machine) (d : Division) (n : ℕ) (h k : Held) (x : Item) (w : ℕ) → SameAsked m d n x h k → ((s : Start) → start_of m h.written (target_of_item x, w) ≡ Some s → LiesIn d (part_of d n) s)
