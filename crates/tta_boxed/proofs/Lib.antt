@@ -9,8 +9,7 @@ pub mod Inputs
 pub mod Clock
 pub mod Due
 pub mod Going
-pub mod Beginning
-pub mod Passing
+pub mod Coming
 pub mod Ports
 pub mod Running
 pub mod Sound

@@ -14,8 +14,7 @@ use Rattle.tta_boxed.proofs.Wholes.{IsWhole, wholes}
 use Rattle.tta_boxed.proofs.Due.{DueAt, AreDue}
 use Rattle.tta_boxed.proofs.Clock as clock
 use Rattle.tta_boxed.proofs.Going as going
-use Rattle.tta_boxed.proofs.Beginning.{began}
-use Rattle.tta_boxed.proofs.Passing.{passed}
+use Rattle.tta_boxed.proofs.Coming.{began, passed}
 use Rattle.tta_boxed.proofs.Ports.{port_same}
 
 -- a word that is taken, and one that is not

@@ -1,6 +1,6 @@
 -- Texts of lists.
-use Rattle.std.proofs.Common.{◌≡◌, ◌+◌, ◌-◌, ◌<◌, ◌++◌, ◌∷◌, [], ℕ, zero, suc, List, map, refl, sym, ap, ◌∙◌, arith}
-use Rattle.std.specs.List.{flat_map, range_with_len}
+use Rattle.std.proofs.Common.{◌≡◌, ◌++◌, ◌∷◌, [], ℕ, List, map, refl, sym, ap, ◌∙◌}
+use Rattle.std.specs.List.{flat_map}
 use Rattle.tta_trap_rtl.proofs.Wires.{by_each}
 
 -- texts of what is made of elements, one element after another
@@ -15,10 +15,3 @@ pub by_both : {A B C : Type 0} (g : B → List ℕ) (h : C → List ℕ) (f : A 
     → ((x : A) → flat_map g (f x) ≡ flat_map h (k x)) → (xs : List A) → flat_map g (flat_map f xs) ≡ flat_map h (flat_map k xs)
 by_both g h f k is xs =
     by_each g f (λ x. flat_map h (k x)) is xs ∙ sym (by_each h k (λ x. flat_map h (k x)) (λ x. refl) xs)
-
--- texts of numbers: that of the first, and those after it
-pub one_more : (f : ℕ → List ℕ) (a n : ℕ) → 0 < n → flat_map f (range_with_len a n) ≡ f a ++ flat_map f (range_with_len (a + 1) (n - 1))
-one_more f a zero some = absurd (omega arith)
-one_more f a (suc n) some =
-    let e : suc n - 1 ≡ n = omega arith in
-    ap (λ (k : ℕ). f a ++ flat_map f (range_with_len (a + 1) k)) (sym e)

@@ -10,14 +10,6 @@ use Rattle.tta_hardware.specs.Signals.{Signal as Named}
 use Rattle.tta_rtl.specs.Texts.{due_text, due_word_text, load_text, register_of, registers_text, unit_registers_text}
 use Rattle.tta_rtl.proofs.RegisterTexts.{line_of_register}
 
--- one delay and those after it
-pub one_more : (f : ℕ → List ℕ) (a n : ℕ) → 0 < n
-    → flat_map f (range_with_len a n) ≡ f a ++ flat_map f (range_with_len (a + 1) (n - 1))
-one_more f a zero some = absurd (omega arith)
-one_more f a (suc n) some =
-    let e : suc n - 1 ≡ n = omega arith in
-    flat_map-cons f a (range_with_len (a + 1) n) ∙ ap (λ (k : ℕ). f a ++ flat_map f (range_with_len (a + 1) k)) (sym e)
-
 -- the registers of a list, one after another
 registers_each : (m : Machine) (declares : Bool) (ns : List Named) → registers_text m declares ns ≡ flat_map (register_of m declares) ns
 unfolding register_of

@@ -7,14 +7,13 @@ ghost use Rattle.tta_hardware.specs.Signals as s;
 ghost use Rattle.tta_hardware.specs.Wires as w;
 ghost use Rattle.tta_names.specs.Names.{text_of};
 ghost use Rattle.tta_rtl.specs.Texts.{wire_of, wire_start, wires_text};
-ghost use Rattle.tta_verilog.specs.Expressions.{part};
 
 use crate::on::On;
 use crate::reach::{push_arrivals, push_reached};
 use crate::starts::{UnitWord, push_starts, push_word_where};
 use std::alloc::{AllocError, Global};
 use tta_arch::{Dest, Op};
-use tta_verilog::{push_constant, push_number, push_range, push_text};
+use tta_verilog::{push_constant, push_number, push_part_of, push_range, push_text};
 
 /// Puts how the line of a wire begins.
 #[tactic(auto, unfolding(crate::specs::Texts::wire_start))]
@@ -158,19 +157,6 @@ fn push_goes(out: &mut Vec<u8>, on: &On<'_>) -> Result<(), AllocError>
     start_wire(out, b"n_goes", 1)?;
     push_goes_test(out, on)?;
     push_text(out, b";\n")
-}
-
-/// Puts a part of a signal by its name.
-#[tactic(auto, unfolding(tta_verilog::specs::Expressions::part))]
-fn push_part_of(out: &mut Vec<u8>, name: &[u8], low: u32, width: u32) -> Result<(), AllocError>
-    ensures { OnOk result (out.new.items ≡ out.old.items ++ part name.now low width) }
-{
-    push_text(out, name)?;
-    push_text(out, b"[")?;
-    push_number(out, u64::from(low))?;
-    push_text(out, b"+:")?;
-    push_number(out, u64::from(width))?;
-    push_text(out, b"]")
 }
 
 /// Puts the address to which the control move leads that takes effect.

@@ -1,13 +1,13 @@
 //! What the variables of a digit of a division take.
 
-ghost use Rattle.std.specs.Prelude.{◌≡◌, ◌<◌, ◌+◌, ◌-◌, ◌*◌, ◌++◌, codes, decimal, OnOk};
+ghost use Rattle.std.specs.Prelude.{◌≡◌, ◌<◌, ◌+◌, ◌-◌, ◌*◌, ◌++◌, codes, OnOk};
 ghost use Rattle.tta_verilog.specs.Expressions as e;
 ghost use Rattle.tta_rtl.specs.Cited.{Signal, brought_word};
 ghost use Rattle.tta_rtl.specs.Dividing as d;
 ghost use Rattle.tta_rtl.specs.Variables as v;
 
 use std::alloc::AllocError;
-use tta_verilog::{push_constant, push_number, push_text};
+use tta_verilog::{push_constant, push_number, push_part_select, push_text};
 
 /// Puts the variable of a wire.
 #[tactic(auto, unfolding(crate::specs::Variables::variable))]
@@ -43,18 +43,6 @@ fn push_digits(out: &mut Vec<u8>, done: u32) -> Result<(), AllocError>
     }
 }
 
-/// Puts which bits of a name are taken.
-fn push_bits(out: &mut Vec<u8>, low: u32, width: u32) -> Result<(), AllocError>
-    ensures { OnOk result (out.new.items ≡ out.old.items
-        ++ (codes "[" ++ (decimal low ++ (codes "+:" ++ (decimal width ++ codes "]"))))) }
-{
-    push_text(out, b"[")?;
-    push_number(out, u64::from(low))?;
-    push_text(out, b"+:")?;
-    push_number(out, u64::from(width))?;
-    push_text(out, b"]")
-}
-
 /// Puts a part of the digits after so many.
 #[tactic(auto, unfolding(tta_verilog::specs::Expressions::part))]
 fn push_part(out: &mut Vec<u8>, done: u32, low: u32, width: u32) -> Result<(), AllocError>
@@ -63,7 +51,7 @@ fn push_part(out: &mut Vec<u8>, done: u32, low: u32, width: u32) -> Result<(), A
         ++ e.part (v.port_name (d.digits_after done)) low width) }
 {
     push_digits(out, done)?;
-    push_bits(out, low, width)
+    push_part_select(out, low, width)
 }
 
 /// Puts the rest joined with the next digit of the dividend.
@@ -143,7 +131,7 @@ fn push_left_word(out: &mut Vec<u8>, done: u32) -> Result<(), AllocError>
     push_text(out, b"(")?;
     push_variable(out, 5 * done)?;
     push_text(out, b")-(b")?;
-    push_bits(out, 0, done + 1)?;
+    push_part_select(out, 0, done + 1)?;
     push_text(out, b")")
 }
 

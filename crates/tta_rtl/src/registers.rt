@@ -19,7 +19,7 @@ use crate::reach::push_hits;
 use std::alloc::AllocError;
 use tta_arch::{BusFields, Dest, File, Machine, is_dest_on};
 use tta_names::{push_of_bus, push_register};
-use tta_verilog::{push_number, push_range, push_text};
+use tta_verilog::{push_part_select, push_range, push_text};
 
 /// Puts how the line of a register begins: where it is declared, how many bits it has, and else when it
 /// takes a word.
@@ -64,11 +64,7 @@ fn push_cut(out: &mut Vec<u8>, m: &Machine, bus: usize, one_bit: bool) -> Result
         return push_of_bus(out, m, b"bus_", bus);
     }
     push_of_bus(out, m, b"bus_", bus)?;
-    push_text(out, b"[")?;
-    push_number(out, 0)?;
-    push_text(out, b"+:")?;
-    push_number(out, 1)?;
-    push_text(out, b"]")
+    push_part_select(out, 0, 1)
 }
 
 /// Puts whether the move of a bus brings its word to a register of a file, and that word, as a choice begins;

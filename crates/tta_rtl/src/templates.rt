@@ -11,7 +11,7 @@ ghost use Rattle.tta_rtl.specs.Parts.{part_text, share_width, shares_text};
 use crate::on::On;
 use std::alloc::AllocError;
 use tta_arch::{BusFields, Template, has_bus};
-use tta_verilog::{push_constant, push_number, push_text};
+use tta_verilog::{push_constant, push_part_of, push_text};
 
 /// How many bits some buses have.
 pub fn width_of(buses: &[BusFields]) -> u32
@@ -45,16 +45,10 @@ fn long_width(taken: u16, bus: usize, buses: &[BusFields]) -> u32
 }
 
 /// Puts a part of the instruction's word.
-#[tactic(auto, unfolding(tta_verilog::specs::Expressions::part))]
 pub fn push_part(out: &mut Vec<u8>, low: u32, width: u32) -> Result<(), AllocError>
     ensures { OnOk result (out.new.items ≡ out.old.items ++ part_text low width) }
 {
-    push_text(out, b"n_word")?;
-    push_text(out, b"[")?;
-    push_number(out, u64::from(low))?;
-    push_text(out, b"+:")?;
-    push_number(out, u64::from(width))?;
-    push_text(out, b"]")
+    push_part_of(out, b"n_word", low, width)
 }
 
 /// Puts the code of the template.

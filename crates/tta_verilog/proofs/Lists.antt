@@ -1,6 +1,6 @@
--- Texts of lists are told item by item.
-use Rattle.std.proofs.Common.{◌≡◌, List, [], ◌∷◌, ◌++◌, ℕ, sym, ap₂, ◌∙◌, append_assoc, refl}
-use Rattle.std.specs.List.{flat_map, AllByRecursion}
+-- Texts of lists, which are told item by item.
+use Rattle.std.proofs.Common.{◌≡◌, ◌+◌, ◌-◌, ◌<◌, List, [], ◌∷◌, ◌++◌, ℕ, zero, suc, sym, ap, ap₂, ◌∙◌, append_assoc, refl, arith}
+use Rattle.std.specs.List.{flat_map, range_with_len, AllByRecursion}
 
 -- two lists of one length, whose items are alike one by one
 abbrev pub Paired : {X : Type 0} → (X → X → Type 0) → List X → List X → Type 0
@@ -59,3 +59,10 @@ paired_and A B [] [] a b = tt
 paired_and A B [] (y ∷ ys) a b = absurd a
 paired_and A B (x ∷ xs) [] a b = absurd a
 paired_and A B (x ∷ xs) (y ∷ ys) a b = ((a.0, b.0), paired_and A B xs ys a.1 b.1)
+
+-- texts of numbers: that of the first, and those after it
+pub one_more : (f : ℕ → List ℕ) (a n : ℕ) → 0 < n → flat_map f (range_with_len a n) ≡ f a ++ flat_map f (range_with_len (a + 1) (n - 1))
+one_more f a zero some = absurd (omega arith)
+one_more f a (suc n) some =
+    let e : suc n - 1 ≡ n = omega arith in
+    ap (λ (k : ℕ). f a ++ flat_map f (range_with_len (a + 1) k)) (sym e)

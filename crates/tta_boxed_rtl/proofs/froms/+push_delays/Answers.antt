@@ -4,7 +4,7 @@ use Rattle.tta_list.proofs.Lists.{then_more}
 use Rattle.tta_list.proofs.Results.{onward}
 use Rattle.tta_boxed_rtl.specs.Left.{told_by}
 use Rattle.tta_boxed_rtl.specs.Texts.{from_line}
-use Rattle.tta_boxed_rtl.proofs.Lists.{one_more}
+use Rattle.tta_verilog.proofs.Lists.{one_more}
 use Rattle.tta_boxed_rtl.proofs.froms.+push_delays.Goals as goal
 
 pub returns : goal.returns

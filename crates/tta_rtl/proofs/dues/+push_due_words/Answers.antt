@@ -2,7 +2,7 @@ use Rattle.std.proofs.Common.{◌≡◌, ◌+◌, ◌-◌, ◌<◌, List, ℕ, O
 use Rattle.std.specs.List.{flat_map, range_with_len}
 use Rattle.tta_rtl.specs.Texts.{due_word_text}
 use Rattle.tta_rtl.proofs.Pieces.{two}
-use Rattle.tta_rtl.proofs.UnitRegisters.{one_more}
+use Rattle.tta_verilog.proofs.Lists.{one_more}
 use Rattle.tta_rtl.proofs.dues.+push_due_words.Goals as goal
 
 pub returns : goal.returns
