@@ -36,7 +36,8 @@ fn add_next(table: &mut PlaceLists, step: &Step, at: usize) -> Result<(), AllocE
 /// Adds the edge from a step to the next one, if the step goes on to it.
 fn add_fall(table: &mut PlaceLists, step: &Step, at: usize) -> Result<(), AllocError>
     requires { at + 1 < 2 ^ 64 }
-    ensures { OnOk result (Adds at (λ k. falls_through step.now && at + 1 == k) table.old table.new) }
+    ensures { OnOk result
+        (Adds at (λ k. falls_through step.now && at + 1 == k) table.old table.new) }
 {
     if falls_on(step) {
         table.add(at + 1, at)?;

@@ -45,7 +45,8 @@ fn mark_next(search: &mut Search, step: &Step, at: usize) -> Result<(), AllocErr
 fn mark_fall(search: &mut Search, step: &Step, at: usize) -> Result<(), AllocError>
     requires marked { IsMarked search.old }
     requires small { at + 1 < 2 ^ 64 }
-    ensures { OnOk result (Finds (λ k. falls_through step.now && at + 1 == k) search.old search.new) }
+    ensures { OnOk result
+        (Finds (λ k. falls_through step.now && at + 1 == k) search.old search.new) }
 {
     if falls_on(step) {
         search.mark(at + 1)?;
