@@ -17,6 +17,19 @@ impl FromStr for String {
 
 const DIGITS: usize = 39;
 
+/// Writes the digits of a number so that they end at a place, and answers where they begin.
+pub fn write_digits(number: u64, bytes: &mut [u8], end: usize) -> usize {
+    let (mut rest, mut at) = (number, end);
+    loop {
+        at -= 1;
+        bytes[at] = b'0' + (rest % 10) as u8;
+        rest /= 10;
+        if rest == 0 {
+            return at;
+        }
+    }
+}
+
 /// Room for the digits of a number.
 pub struct Buffer {
     digits: [u8; DIGITS],
