@@ -15,3 +15,4 @@ pub mod Alike
 pub mod Here
 pub mod Parts
 pub mod OneTexts
+pub mod PrintedTexts

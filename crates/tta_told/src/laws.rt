@@ -1,6 +1,7 @@
 //! Laws of texts of machines. A law is a function that does nothing, and whose contract is the law.
 
 ghost use Rattle.tta_told.specs.Laws.{OneBoxedText, OneText, OneTrapText};
+ghost use Rattle.tta_told.specs.Printed.{PrintedBoxedText, PrintedText};
 
 /// The text of a machine with its code is that of at most one circuit.
 pub fn one_text()
@@ -15,4 +16,14 @@ pub fn one_trap_text()
 /// The text of a circuit that leaves operations to modules is that of at most one circuit.
 pub fn one_boxed_text()
     ensures { OneBoxedText }
+{}
+
+/// What `rtl` prints of a circuit, with faults or without, is such a text.
+pub fn printed_text()
+    ensures { PrintedText }
+{}
+
+/// What it prints of one that leaves operations to modules is such a text.
+pub fn printed_boxed_text()
+    ensures { PrintedBoxedText }
 {}

@@ -3,4 +3,4 @@
 
 mod laws;
 
-pub use laws::{one_boxed_text, one_text, one_trap_text};
+pub use laws::{one_boxed_text, one_text, one_trap_text, printed_boxed_text, printed_text};
