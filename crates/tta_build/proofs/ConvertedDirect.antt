@@ -5,7 +5,7 @@ use Rattle.std.specs.List.{list_all}
 use Rattle.tta_build.specs.Cited.{AllPairs, Machine, Word, Var, Step, Copy, Apply, Load, Store, Put, Take, If, Goto, When, Invoke, Return, Halt, End, Proc, Program, only_constants, is_direct, is_direct_proc, is_brought, is_triangle, is_dropped, place, renumbered, becomes, IsConverted, Converted}
 use Rattle.tta_ifconv.proofs.Lists.{same_items}
 use Rattle.tta_ifconv.proofs.Places.{triangle_of, triangle_stays}
-use Rattle.tta_ifconv.proofs.Origins.{Kind, TargetMachine, Renumbered, kind_of, Origin, origin_of}
+use Rattle.tta_ifconv.proofs.Origins.{Kind, Joined, Renumbered, kind_of, Origin, origin_of}
 use Rattle.tta_ifconv.proofs.Listed.{no_greater}
 
 -- a step that only outputs a constant, halts or ends
@@ -73,7 +73,7 @@ module _ (a b : Proc) (is : IsConverted a b) where
       sym (ap (slice_get a.steps) at) ∙ o.there ∙ ap Some (by k x o one))
     where
       by : (k : ℕ) (x : Step) (o : Origin a b k x) → Kind a.steps o.at o.old → o.old ≡ x
-      by k x o (TargetMachine rel y z d s same copy begins new) = absurd (let e = plain o.at o.old o.there in let f : is_plain o.old ≡ false = ap is_plain same in cc)
+      by k x o (Joined rel y z d s same copy begins new) = absurd (let e = plain o.at o.old o.there in let f : is_plain o.old ≡ false = ap is_plain same in cc)
       by k x o (Renumbered other new) = sym (plain_renumbered (place a.steps) o.old (plain o.at o.old o.there)) ∙ sym new ∙ o.becomes
 
   -- steps that become plain ones were plain
@@ -81,7 +81,7 @@ module _ (a b : Proc) (is : IsConverted a b) where
   unfolding ArePlain
   plain_before plain i x there = dropped (is_dropped a.steps i) refl where
     kept : (j : ℕ) (y : Step) → slice_get a.steps j ≡ Some y → is_dropped a.steps j ≡ false → Kind a.steps j y → (is_plain y ≡ true) × (is_triangle a.steps j ≡ false)
-    kept j y at stays (TargetMachine rel z w d s same copy begins new) =
+    kept j y at stays (Joined rel z w d s same copy begins new) =
         absurd (let e = plain (place a.steps j) (becomes a.steps j y) (is.steps j y at stays) in let f : is_plain (becomes a.steps j y) ≡ false = ap is_plain new in cc)
     kept j y at stays (Renumbered other new) =
         (renumbered_plain (place a.steps) y (sym (ap is_plain new) ∙ plain (place a.steps j) (becomes a.steps j y) (is.steps j y at stays)), other)

@@ -9,7 +9,7 @@ use Rattle.std.proofs.Math.Nat.{mul-le-mul}
 use Rattle.tta_build.specs.Cited.{AllPairs, Units, Machine, first_some, or_else, Rel, Eq, Ne, Lt, Ge, Ltu, Geu, Step, Copy, If, Goto, Proc, Program, step_count, IsProgram, IsProc, frame_need, var_count, arg_count, test_op, longest, need_of, first_failing, room_on, opposite, is_triangle, is_dropped, place, renumbered, becomes, IsConverted, Converted}
 use Rattle.tta_ifconv.proofs.Lists.{stands_within}
 use Rattle.tta_ifconv.proofs.Places.{triangle_of, place_rises}
-use Rattle.tta_ifconv.proofs.Origins.{Kind, TargetMachine, Renumbered, kind_of, origin_of}
+use Rattle.tta_ifconv.proofs.Origins.{Kind, Joined, Renumbered, kind_of, origin_of}
 use Rattle.tta_ifconv.proofs.Listed.{no_greater}
 use Rattle.tta_build.specs.Statement.{has_offer, is_supplied, unsupplied_in, unsupplied}
 
@@ -69,7 +69,7 @@ module _ (u : Units) (m : Machine) where
   supplied_becomes : (steps : List Step) (i : ℕ) (step : Step) → slice_get steps i ≡ Some step → is_supplied u m (becomes steps i step) ≡ is_supplied u m step
   supplied_becomes steps i step there = by (kind_of steps i step there) where
     by : Kind steps i step → is_supplied u m (becomes steps i step) ≡ is_supplied u m step
-    by (TargetMachine rel a b d s same copy begins new) =
+    by (Joined rel a b d s same copy begins new) =
         ap (is_supplied u m) new ∙ ap (λ op. option_map_or (has_offer m) (Some op) true) (need_opposite u rel) ∙ sym (ap (is_supplied u m) same)
     by (Renumbered other new) = ap (is_supplied u m) new ∙ ap (λ o. option_map_or (has_offer m) o true) (need_renumbered u (place steps) step)
 

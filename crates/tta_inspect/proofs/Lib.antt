@@ -6,4 +6,4 @@ mod Lacking
 mod TextsByStatus
 mod Circuits
 mod Powers
-mod TargetMachine
+mod Joined

@@ -5,7 +5,7 @@ use Rattle.tta_inspect.specs.Cited.{stated, no_memory, TextEnds, cores_in, Takes
 use Rattle.tta_load.proofs.Endings.{text_ends}
 use Rattle.tta_inspect.specs.Depths.{depths_in}
 use Rattle.tta_inspect.specs.Joining.{IsNetText}
-use Rattle.tta_inspect.proofs.TargetMachine.{cores_shown}
+use Rattle.tta_inspect.proofs.Joined.{cores_shown}
 use Rattle.tta_inspect.proofs.joining.put_cores.Goals as goal
 
 pub returns-in-Ok : goal.returns-in-Ok

@@ -3,7 +3,7 @@ use Rattle.std.proofs.lemmas.List.{length-map}
 use Rattle.std.specs.String.{string_bytes}
 use Rattle.tta_inspect.specs.Cited.{stated, IsTaken, cores_in, AreLinks}
 use Rattle.tta_inspect.specs.Joining.{ShowsCores}
-use Rattle.tta_inspect.proofs.TargetMachine.{links_shown}
+use Rattle.tta_inspect.proofs.Joined.{links_shown}
 use Rattle.tta_inspect.proofs.joining.put_net.Goals as goal
 
 pub returns-in-Ok : goal.returns-in-Ok

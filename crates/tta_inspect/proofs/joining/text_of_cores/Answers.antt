@@ -2,7 +2,7 @@ use Rattle.std.proofs.Common.{◌≡◌, ◌≤◌, ◌∙◌, ℕ, List, length
 use Rattle.std.specs.List.{AllByRecursion}
 use Rattle.tta_inspect.specs.Depths.{depths_in}
 use Rattle.tta_inspect.proofs.Powers.{depths_count, depths_small}
-use Rattle.tta_inspect.proofs.TargetMachine.{sound}
+use Rattle.tta_inspect.proofs.Joined.{sound}
 use Rattle.tta_inspect.proofs.joining.text_of_cores.Goals as goal
 
 pub write_net-requires-clause-depths : goal.write_net-requires-clause-depths

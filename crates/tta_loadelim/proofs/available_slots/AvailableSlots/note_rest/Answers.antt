@@ -5,7 +5,7 @@ use Rattle.tta_loadelim.specs.declared.facts.Fact.{Fact}
 use Rattle.tta_loadelim.specs.AvailableSlots.{known, stays}
 use Rattle.tta_loadelim.specs.Facts.{is_among, are_among}
 use Rattle.tta_loadelim.proofs.Among.{among_in, among_at, among_filter}
-use Rattle.tta_loadelim.proofs.known.AvailableSlots.note_rest.Goals as goal
+use Rattle.tta_loadelim.proofs.available_slots.AvailableSlots.note_rest.Goals as goal
 
 pub loop-f-preserved : goal.loop-f-preserved
 loop-f-preserved c before all knows old kept =

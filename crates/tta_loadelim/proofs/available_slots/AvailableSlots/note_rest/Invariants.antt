@@ -3,7 +3,7 @@ use Rattle.tta_loadelim.specs.Cited.{Item}
 use Rattle.tta_loadelim.specs.declared.facts.Fact.{Fact}
 use Rattle.tta_loadelim.specs.AvailableSlots.{known, stays}
 use Rattle.tta_loadelim.specs.Facts.{are_among, Knows}
-use Rattle.tta_loadelim.proofs.known.AvailableSlots.note_rest.Given as goal
+use Rattle.tta_loadelim.proofs.available_slots.AvailableSlots.note_rest.Given as goal
 
 abbrev pub invariant-loop-f : goal.invariant-loop-f
 invariant-loop-f l =

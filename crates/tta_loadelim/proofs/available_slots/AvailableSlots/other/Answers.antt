@@ -5,7 +5,7 @@ use Rattle.tta_loadelim.specs.declared.facts.Fact.{Fact}
 use Rattle.tta_loadelim.specs.AvailableSlots.{fact, known, have_one}
 use Rattle.tta_loadelim.specs.Facts.{is_among, are_among, Knows}
 use Rattle.tta_loadelim.proofs.Among.{among_in, among_at, one_slot}
-use Rattle.tta_loadelim.proofs.known.AvailableSlots.other.Goals as goal
+use Rattle.tta_loadelim.proofs.available_slots.AvailableSlots.other.Goals as goal
 
 pub loop-f-preserved : goal.loop-f-preserved
 loop-f-preserved c = record { asked = rw c.in-Some.is at c.loop-f.invariant.asked; found = found } where

@@ -2,7 +2,7 @@ use Rattle.std.proofs.Common.{◌≡◌, List, true, IfSome}
 use Rattle.tta_loadelim.specs.Cited.{Item}
 use Rattle.tta_loadelim.specs.AvailableSlots.{fact, known, have_one}
 use Rattle.tta_loadelim.specs.Facts.{is_among, Knows}
-use Rattle.tta_loadelim.proofs.known.AvailableSlots.other.Given as goal
+use Rattle.tta_loadelim.proofs.available_slots.AvailableSlots.other.Given as goal
 
 abbrev pub invariant-loop-f : goal.invariant-loop-f
 invariant-loop-f l = record {

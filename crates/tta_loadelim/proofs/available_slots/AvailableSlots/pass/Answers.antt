@@ -3,7 +3,7 @@ use Rattle.tta_loadelim.specs.declared.facts.Fact.{Fact}
 use Rattle.tta_loadelim.specs.AvailableSlots.{known}
 use Rattle.tta_loadelim.specs.Facts.{are_among}
 use Rattle.tta_loadelim.proofs.Noting.{all_stay, loads_known, twins_known, stores_known, copies_known, rest_known}
-use Rattle.tta_loadelim.proofs.known.AvailableSlots.pass.Goals as goal
+use Rattle.tta_loadelim.proofs.available_slots.AvailableSlots.pass.Goals as goal
 
 pub returns : goal.returns
 returns c before knows =
