@@ -35,6 +35,7 @@ pub struct Places {
 
 impl Model for Places {
     ghost use Rattle.std.specs.Prelude.{◌≡◌, ℕ, List, Option, length};
+    ghost use Rattle.tta_sim.specs.Places.{place_count};
 
     ghost Value = { List (Option ℕ) };
 
