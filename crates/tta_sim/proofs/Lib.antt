@@ -34,4 +34,5 @@ pub mod Settled
 pub mod Growing
 pub mod Marking
 pub mod Found
+pub mod Flats
 mod OrderSamples

@@ -1,10 +1,10 @@
 -- Marks of lines, which stay right as words are added.
-use Rattle.std.proofs.Common.{◌≡◌, ◌||◌, ◌==◌, not, ℕ, Bool, true, false, List, [], ◌∷◌, map, Option, None, Some, ◌⊎◌, inl, inr, refl, ap, sym, ◌∙◌, subst}
+use Rattle.std.proofs.Common.{◌≡◌, ◌<◌, ◌||◌, ◌==◌, not, length, get_or, ℕ, Bool, true, false, List, [], ◌∷◌, map, Option, None, Some, ◌⊎◌, inl, inr, refl, ap, sym, ◌∙◌, subst}
 use Rattle.std.specs.Prelude.{is_some, slice_get, slice_set, slice_index_or, option_map, if◌then◌else◌}
 use Rattle.std.specs.List.{list_all}
 use Rattle.std.proofs.lemmas.Bool.{and_parts, and_from}
 use Rattle.std.proofs.lemmas.List.{length-set, length-map}
-use Rattle.std.proofs.lemmas.Option.{slice_get-map}
+use Rattle.std.proofs.lemmas.Option.{slice_get-map, slice_get-get_or}
 use Rattle.tta_list.proofs.Lists.{slice_get-changed}
 use Rattle.tta_sim.specs.Cited.{KeptOperand}
 use Rattle.tta_sim.specs.declared.decoded.DecodedGuard.{DecodedGuard}
@@ -13,25 +13,32 @@ use Rattle.tta_sim.specs.declared.decoded.DecodedSource.TheVariants as decoded
 use Rattle.tta_sim.specs.declared.decoded.Reading.{Reading}
 use Rattle.tta_sim.specs.declared.decoded.DecodedStart.{DecodedStart}
 use Rattle.tta_sim.specs.declared.decoded.Line.{Line}
+use Rattle.tta_sim.specs.declared.flat.Row.{Row}
 use Rattle.tta_sim.specs.declared.mark.Mark.{Mark}
 use Rattle.tta_sim.specs.declared.mark.Mark.TheVariants as mark
 use Rattle.tta_sim.specs.Places.{number_of}
 use Rattle.tta_sim.specs.Lines.{source_word}
 use Rattle.tta_sim.specs.Order.{is_in_order}
-use Rattle.tta_sim.specs.Known.{is_guard_known, is_known, is_start_known, is_settled, mark_of, IsMarked, AreMarked, Grows}
+use Rattle.tta_sim.specs.Known.{is_guard_known, is_known, is_start_known, is_settled, mark_of, IsMarked, IsKnown, AreKnown, Grows}
+use Rattle.tta_sim.specs.Flat.{row_with}
 
 some_same : {A : Type 0} (x y : A) → Some x ≡ Some y → x ≡ y
 some_same x y is = cc
 
+-- an element that is there, whatever stands for none
+pub get_or_same : (lines : List Line) (k : ℕ) (d e : Line) → k < length lines → get_or lines k d ≡ get_or lines k e
+get_or_same lines k d e less = some_same (get_or lines k d) (get_or lines k e) (sym (slice_get-get_or lines k d less) ∙ slice_get-get_or lines k e less)
+
 -- ---- the begin
 
--- lines with the marks of the begin
-pub first_marked : (places : List (Option ℕ)) (shown : ℕ → Option ℕ) (lines : List Line) → AreMarked places shown lines (map mark_of lines)
-first_marked places shown lines = record {
-  count = length-map lines mark_of;
-  each = λ k l m there marked.
-      let is : mark_of l ≡ m = some_same (mark_of l) m (sym (slice_get-map mark_of lines k ∙ ap (option_map mark_of) there) ∙ marked) in
-      subst (IsMarked places shown l) is (one l);
+-- lines with the rows of the begin
+pub first_known : (places : List (Option ℕ)) (shown : ℕ → Option ℕ) (lines : List Line) → AreKnown places shown lines (map (λ l. row_with (mark_of l) l) lines)
+first_known places shown lines = record {
+  count = length-map lines (λ l. row_with (mark_of l) l);
+  each = λ k l row there at.
+      let is : row_with (mark_of l) l ≡ row =
+      some_same (row_with (mark_of l) l) row (sym (slice_get-map (λ l. row_with (mark_of l) l) lines k ∙ ap (option_map (λ l. row_with (mark_of l) l)) there) ∙ at) in
+      subst (IsKnown places shown l) is (record { marked = one l; moves = refl });
 } where
   one : (l : Line) → IsMarked places shown l (mark_of l)
   one l = elim (is_in_order l) as (λ b. is_in_order l ≡ b → IsMarked places shown l (if b then mark.Ordered else mark.Apart)) [
@@ -42,17 +49,20 @@ first_marked places shown lines = record {
 -- ---- another mark
 
 -- a line whose mark is another
-pub marked_set : (places : List (Option ℕ)) (shown : ℕ → Option ℕ) (lines : List Line) (marks : List Mark) (i : ℕ) (l : Line) (m : Mark) → AreMarked places shown lines marks
-    → slice_get lines i ≡ Some l → IsMarked places shown l m → AreMarked places shown lines (slice_set marks i m)
-marked_set places shown lines marks i l m are at is = record {
-  count = length-set marks i m ∙ are.count;
-  each = λ k x n there marked. by k x n there (slice_get-changed marks i m k n marked);
+pub known_set : (places : List (Option ℕ)) (shown : ℕ → Option ℕ) (lines : List Line) (rows : List Row) (i : ℕ) (l : Line) (row : Row) (m : Mark) → AreKnown places shown lines rows
+    → slice_get lines i ≡ Some l → slice_get rows i ≡ Some row → IsMarked places shown l m → AreKnown places shown lines (slice_set rows i (record row { mark = m }))
+known_set places shown lines rows i l row m are at row_at is = record {
+  count = length-set rows i (record row { mark = m }) ∙ are.count;
+  each = λ k x n there known. by k x n there (slice_get-changed rows i (record row { mark = m }) k n known);
 } where
-  by : (k : ℕ) (x : Line) (n : Mark) → slice_get lines k ≡ Some x → (slice_get marks k ≡ Some n) ⊎ ((k ≡ i) × (m ≡ n)) → IsMarked places shown x n
+  it : IsKnown places shown l (record row { mark = m })
+  it = record { marked = is; moves = ap {A = Row} {B = Row} (λ q. record q { mark = m }) (are.each i l row at row_at).moves }
+
+  by : (k : ℕ) (x : Line) (n : Row) → slice_get lines k ≡ Some x → (slice_get rows k ≡ Some n) ⊎ ((k ≡ i) × (record row { mark = m } ≡ n)) → IsKnown places shown x n
   by k x n there (inl before) = are.each k x n there before
   by k x n there (inr (here, same)) =
       let line : l ≡ x = some_same l x (sym at ∙ ap (slice_get lines) (sym here) ∙ there) in
-      subst (IsMarked places shown x) same (subst (λ y. IsMarked places shown y m) line is)
+      subst (IsKnown places shown x) same (subst (λ y. IsKnown places shown y (record row { mark = m })) line it)
 
 -- ---- more words
 
@@ -100,6 +110,9 @@ module _ (places places' : List (Option ℕ)) (shown shown' : ℕ → Option ℕ
   mark_grows l mark.Ordered is = is
   mark_grows l mark.Settled is = (is.0, settled_grows l is.1)
 
-  -- the marks stay right where no word is lost
-  pub marked_grows : (lines : List Line) (marks : List Mark) → AreMarked places shown lines marks → AreMarked places' shown' lines marks
-  marked_grows lines marks are = record { count = are.count; each = λ k l m there marked. mark_grows l m (are.each k l m there marked) }
+  -- what is known of lines stays right where no word is lost
+  pub known_kept : (lines lines' : List Line) → lines' ≡ lines → (rows : List Row) → AreKnown places shown lines rows → AreKnown places' shown' lines' rows
+  known_kept lines lines' same rows are = subst (λ ls. AreKnown places' shown' ls rows) (sym same) (record {
+    count = are.count;
+    each = λ k l row there at. let is = are.each k l row there at in record { marked = mark_grows l row.mark is.marked; moves = is.moves };
+  })

@@ -7,8 +7,10 @@ use Rattle.tta_sim.specs.declared.decoded.DecodedGuard.{DecodedGuard}
 use Rattle.tta_sim.specs.declared.decoded.Reading.{Reading}
 use Rattle.tta_sim.specs.declared.decoded.DecodedStart.{DecodedStart}
 use Rattle.tta_sim.specs.declared.decoded.Line.{Line}
+use Rattle.tta_sim.specs.declared.flat.Row.{Row}
 use Rattle.tta_sim.specs.declared.mark.Mark.{Mark}
 use Rattle.tta_sim.specs.declared.mark.Mark.TheVariants as mark
+use Rattle.tta_sim.specs.Flat.{row_with}
 use Rattle.tta_sim.specs.Places.{number_of}
 use Rattle.tta_sim.specs.Results.{Results, shown_by}
 use Rattle.tta_sim.specs.Lines.{source_word, lets}
@@ -47,10 +49,15 @@ IsMarked places shown l mark.Settled = (is_in_order l ≡ true) × (is_settled p
 abbrev pub mark_of : Line → Mark
 mark_of l = if is_in_order l then mark.Ordered else mark.Apart
 
--- Each line has a mark, which says what holds of it.
-pub record AreMarked (places : List (Option ℕ)) (shown : ℕ → Option ℕ) (lines : List Line) (marks : List Mark) : Type 0 where
-  pub count : length marks ≡ length lines
-  pub each : (k : ℕ) (l : Line) (m : Mark) → slice_get lines k ≡ Some l → slice_get marks k ≡ Some m → IsMarked places shown l m
+-- A row has the moves of its line, and its mark says what holds of it.
+pub record IsKnown (places : List (Option ℕ)) (shown : ℕ → Option ℕ) (l : Line) (row : Row) : Type 0 where
+  pub marked : IsMarked places shown l row.mark
+  pub moves : row ≡ row_with row.mark l
+
+-- Each line has its row.
+pub record AreKnown (places : List (Option ℕ)) (shown : ℕ → Option ℕ) (lines : List Line) (rows : List Row) : Type 0 where
+  pub count : length rows ≡ length lines
+  pub each : (k : ℕ) (l : Line) (row : Row) → slice_get lines k ≡ Some l → slice_get rows k ≡ Some row → IsKnown places shown l row
 
 -- what the result port of a unit shows, where the first of a region is the machine's first
 abbrev pub all_shown : Rings → (unit : ℕ) → Option ℕ

@@ -2,6 +2,7 @@ pub mod Cited
 pub mod Controls
 pub mod Decoded
 pub mod Dues
+pub mod Flat
 pub mod Held
 pub mod Kept
 pub mod Lines

@@ -7,9 +7,12 @@ ghost use Rattle.tta_sim.specs.Results.{shown_by};
 ghost use Rattle.tta_sim.specs.Starts.{kind_and_word};
 ghost use Rattle.tta_sim.specs.Lines.{is_unread, is_reading_there, is_control_there, control_brought};
 ghost use Rattle.tta_sim.specs.Lines.{controls_well, IsLineThere};
+ghost use Rattle.tta_sim.specs.Flat.{control_said};
 
 use crate::control::ControlMove;
 use crate::decoded::{DecodedControl, Line, Reading};
+use crate::flat::FlatControl;
+use crate::known::read_said;
 use crate::lines::{Read, read_move};
 use crate::places::Places;
 use crate::results::Results;
@@ -107,4 +110,37 @@ pub fn acting_in(places: &Places, results: &Results<'_>, line: &Line) -> Option<
         return None;
     }
     acting_by(places, results, moves)
+}
+
+/// A flat control move with its word, if it acts.
+#[inline(always)]
+fn acting_flat(places: &Places, results: &Results<'_>, t: &FlatControl) -> Option<ControlMove>
+    requires { IsTrue (is_control_there results.now.units (control_said t.now)) }
+    ensures { let brought = control_brought places.now (shown_by results.now) in
+        option_map kind_and_word result ≡ brought (control_said t.now) }
+{
+    match read_said(places, results, &t.reading) {
+        Some(word) => Some(ControlMove { kind: t.kind, word }),
+        None => None,
+    }
+}
+
+/// The first of the flat control moves that acts, if any does.
+#[inline(always)]
+pub fn acting_said(
+    places: &Places,
+    results: &Results<'_>,
+    moves: &[FlatControl],
+) -> Option<ControlMove>
+    requires { AllByRecursion
+        (λ t. IsTrue (is_control_there results.now.units (control_said t))) moves.now }
+    ensures { let controls = control_brought places.now (shown_by results.now) in
+        option_map kind_and_word result ≡ first_some (λ t. controls (control_said t)) moves.now }
+{
+    for t in moves {
+        if let Some(acting) = acting_flat(places, results, t) {
+            return Some(acting);
+        }
+    }
+    None
 }

@@ -18,13 +18,14 @@ ghost use Rattle.tta_sim.specs.Lines.{IsLineThere};
 ghost use Rattle.tta_sim.specs.Dues.{shown_from, started_at, CanAllBegin};
 ghost use Rattle.tta_sim.specs.Order.{is_touched, is_barred, is_in_order};
 ghost use Rattle.tta_sim.specs.Known.{is_known, is_start_known, is_settled};
+ghost use Rattle.tta_sim.specs.Flat.{reading_said, write_said, start_said, line_said};
 ghost use Rattle.tta_sim.specs.InPlace.{starts_of_line, begun_here, dues_in, delay_now};
 ghost use Rattle.tta_sim.specs.InPlace.{IsWhole, AreWritten, CanStart, StartsNow, AreStarted};
 
 use crate::control::Control;
-use crate::control_moves::acting_in;
-use crate::decoded::{DecodedStart, DecodedWrite, Line};
+use crate::control_moves::acting_said;
 use crate::dues::{Due, result_of};
+use crate::flat::{FlatStart, FlatWrite, Row};
 use crate::known::{operand_known, read_known};
 use crate::places::Places;
 use crate::results::{Part, Results};
@@ -37,11 +38,12 @@ use tta_ops::UnitSet;
 
 /// Writes the word of a move, if it acts.
 #[inline(always)]
-fn write_one(places: &mut Places, results: &Results<'_>, w: &DecodedWrite)
-    requires there { IsTrue (is_write_there results.now.units w.now) }
-    requires known { is_known places.old (shown_by results.now) w.now.reading ≡ true }
+fn write_one(places: &mut Places, results: &Results<'_>, w: &FlatWrite)
+    requires there { IsTrue (is_write_there results.now.units (write_said w.now)) }
+    requires known { let known = is_known places.old (shown_by results.now) in
+        known (reading_said w.now.reading) ≡ true }
     ensures { let brought = write_brought places.old (shown_by results.now) in
-        AreWritten places.old (option_to_list (brought w.now)) places.new }
+        AreWritten places.old (option_to_list (brought (write_said w.now))) places.new }
 {
     if let Some(word) = read_known(places, results, &w.reading) {
         let word = if w.narrow { word % 2 } else { word };
@@ -51,14 +53,14 @@ fn write_one(places: &mut Places, results: &Results<'_>, w: &DecodedWrite)
 
 /// Writes the words of the moves that act, one after another.
 #[inline(always)]
-pub fn write_in_place(places: &mut Places, results: &Results<'_>, moves: &[DecodedWrite])
+pub fn write_in_place(places: &mut Places, results: &Results<'_>, moves: &[FlatWrite])
     requires there { AllByRecursion
-        (λ w. IsTrue (is_write_there results.now.units w)) moves.now }
+        (λ w. IsTrue (is_write_there results.now.units w)) (map write_said moves.now) }
     requires known { let known = is_known places.old (shown_by results.now) in
-        AllByRecursion (λ w. IsTrue (known w.reading)) moves.now }
-    requires order { are_different is_touched moves.now ≡ true }
+        AllByRecursion (λ w. IsTrue (known w.reading)) (map write_said moves.now) }
+    requires order { are_different is_touched (map write_said moves.now) ≡ true }
     ensures { let brought = write_brought places.old (shown_by results.now) in
-        AreWritten places.old (filter_map brought moves.now) places.new }
+        AreWritten places.old (filter_map brought (map write_said moves.now)) places.new }
 {
     for w in moves {
         write_one(places, results, w);
@@ -85,26 +87,27 @@ fn show(region: &mut Region, base: u8, due: &Due)
 
 /// Starts the operation of a move, if it acts: it stores its word, or starts its result.
 #[inline(always)]
-fn start_one(store: &mut Store, region: &mut Region, part: Part, units: &UnitSet, s: &DecodedStart)
+fn start_one(store: &mut Store, region: &mut Region, part: Part, units: &UnitSet, s: &FlatStart)
     requires are { AreThere (results_at part region.old) }
-    requires there { IsTrue (is_start_there part.count s.now) }
+    requires there { IsTrue (is_start_there part.count (start_said s.now)) }
     requires known { let r = results_at part region.old in
-        is_start_known store.old.places (shown_by r) s.now ≡ true }
+        is_start_known store.old.places (shown_by r) (start_said s.now) ≡ true }
     requires can { let U = stated unit_meaning units.now in
         let begun = begun_here store.old (results_at part region.old) in
         AllByRecursion (CanStart part.base region.old)
-        (filter_map (shown_from U 0 store.old) (option_to_list (begun s.now))) }
+        (filter_map (shown_from U 0 store.old) (option_to_list (begun (start_said s.now)))) }
     ensures places { store.new.places ≡ store.old.places }
     ensures cycle { store.new.cycle ≡ store.old.cycle }
     ensures data { let begun = begun_here store.old (results_at part region.old) in
         store.new.memory.items
-        ≡ fold store_data store.old.memory.items (option_to_list (begun s.now)) }
+        ≡ fold store_data store.old.memory.items (option_to_list (begun (start_said s.now))) }
     ensures frame { let begun = begun_here store.old (results_at part region.old) in
         store.new.frame.items
-        ≡ fold store_frame store.old.frame.items (option_to_list (begun s.now)) }
+        ≡ fold store_frame store.old.frame.items (option_to_list (begun (start_said s.now))) }
     ensures started { let U = stated unit_meaning units.now in
         let begun = begun_here store.old (results_at part region.old) in
-        StartsNow part.base (filter_map (shown_from U 0 store.old) (option_to_list (begun s.now)))
+        let its = filter_map (shown_from U 0 store.old) in
+        StartsNow part.base (its (option_to_list (begun (start_said s.now))))
         region.old region.new }
 {
     let read = read_known(&store.places, &Results::of(region, part), &s.reading);
@@ -139,27 +142,29 @@ pub fn start_in_place(
     region: &mut Region,
     part: Part,
     units: &UnitSet,
-    moves: &[DecodedStart],
+    moves: &[FlatStart],
 )
     requires are { AreThere (results_at part region.old) }
-    requires there { AllByRecursion (λ s. IsTrue (is_start_there part.count s)) moves.now }
+    requires there { AllByRecursion
+        (λ s. IsTrue (is_start_there part.count s)) (map start_said moves.now) }
     requires known { let r = results_at part region.old in
-        AllByRecursion (λ s. IsTrue (is_start_known store.old.places (shown_by r) s)) moves.now }
-    requires order { are_different is_barred moves.now ≡ true }
+        let known = is_start_known store.old.places (shown_by r) in
+        AllByRecursion (λ s. IsTrue (known s)) (map start_said moves.now) }
+    requires order { are_different is_barred (map start_said moves.now) ≡ true }
     requires can { let U = stated unit_meaning units.now in
         let r = results_at part region.old in
-        CanAllBegin r (dues_in U store.old r moves.now) }
+        CanAllBegin r (dues_in U store.old r (map start_said moves.now)) }
     ensures places { store.new.places ≡ store.old.places }
     ensures cycle { store.new.cycle ≡ store.old.cycle }
     ensures data { let begun = begun_here store.old (results_at part region.old) in
         store.new.memory.items
-        ≡ fold store_data store.old.memory.items (filter_map begun moves.now) }
+        ≡ fold store_data store.old.memory.items (filter_map begun (map start_said moves.now)) }
     ensures frame { let begun = begun_here store.old (results_at part region.old) in
         store.new.frame.items
-        ≡ fold store_frame store.old.frame.items (filter_map begun moves.now) }
+        ≡ fold store_frame store.old.frame.items (filter_map begun (map start_said moves.now)) }
     ensures started { (now : ℕ) → let U = stated unit_meaning units.now in
         let r = results_at part region.old in
-        AreStarted now r (map (started_at now) (dues_in U store.old r moves.now)) region.new }
+        AreStarted now r (map (started_at now) (dues_in U store.old r (map start_said moves.now))) region.new }
 {
     region.pass_all();
     for s in moves {
@@ -180,8 +185,9 @@ fn come_on(region: &mut Region)
 
 /// Whether a result of one of these would be due at the time of another, if they all act.
 #[inline(always)]
-fn any_clash(results: &Results<'_>, starts: &[DecodedStart]) -> bool
-    requires { AllByRecursion (λ s. IsTrue (is_start_there results.now.units s)) starts.now }
+fn any_clash(results: &Results<'_>, starts: &[FlatStart]) -> bool
+    requires { AllByRecursion
+        (λ s. IsTrue (is_start_there results.now.units (start_said s))) starts.now }
     ensures { result ≡ list_any (λ s. clashes_at results.now s.unit s.does) starts.now }
 {
     for s in starts {
@@ -195,53 +201,56 @@ fn any_clash(results: &Results<'_>, starts: &[DecodedStart]) -> bool
 /// Whether a line that takes words which are all set has no fault, as far as can be seen before it is
 /// carried out. It may say no where there is none.
 #[inline(always)]
-pub fn is_free(store: &Store, region: &Region, part: Part, control: &Control, line: &Line) -> bool
+pub fn is_free(store: &Store, region: &Region, part: Part, control: &Control, row: &Row) -> bool
     requires are { AreThere (results_at part region.now) }
     requires few { length region.now.rings < 64 }
-    requires there { IsLineThere part.count line.now }
-    requires fits { FitsLine store.now (results_at part region.now) line.now }
+    requires there { IsLineThere part.count (line_said row.now) }
+    requires fits { FitsLine store.now (results_at part region.now) (line_said row.now) }
     ensures free { result ≡ true → let r = results_at part region.now in
-        list_any (clashes_with r) (starts_of_line store.now r line.now) ≡ false }
+        list_any (clashes_with r) (starts_of_line store.now r (line_said row.now)) ≡ false }
     ensures controls { result ≡ true
-        → (is_nil line.now.controls || not (is_some control.now.pending)) ≡ true }
+        → (is_nil (line_said row.now).controls || not (is_some control.now.pending)) ≡ true }
 {
-    if !line.controls.is_empty() && control.pending.is_some() {
+    if !row.controls.is_empty() && control.pending.is_some() {
         return false;
     }
     if region.is_still() {
         return true;
     }
-    !any_clash(&Results::of(region, part), line.starts.as_slice())
+    !any_clash(&Results::of(region, part), row.starts.as_slice())
 }
 
 /// Carries out a cycle with a line in order, all of whose words are set, move by move.
 #[inline(always)]
-pub fn carry_in_place(run: &mut Run, region: &mut Region, context: &Context<'_>, line: &Line)
+pub fn carry_in_place(run: &mut Run, region: &mut Region, context: &Context<'_>, row: &Row)
     requires ready { let old = kept_as run.old.store run.old.control region.old in
-        IsAtLine context.now.part line.now old }
+        IsAtLine context.now.part (line_said row.now) old }
     requires own { IsWhole context.now.part region.old }
-    requires order { is_in_order line.now ≡ true }
+    requires order { is_in_order (line_said row.now) ≡ true }
     requires settled { let r = results_at context.now.part region.old in
-        is_settled run.old.store.places (shown_by r) line.now ≡ true }
+        is_settled run.old.store.places (shown_by r) (line_said row.now) ≡ true }
     requires free { let r = results_at context.now.part region.old in
-        list_any (clashes_with r) (starts_of_line run.old.store r line.now) ≡ false }
-    requires controls { (is_nil line.now.controls || not (is_some run.old.control.pending)) ≡ true }
+        list_any (clashes_with r) (starts_of_line run.old.store r (line_said row.now)) ≡ false }
+    requires controls { (is_nil (line_said row.now).controls
+        || not (is_some run.old.control.pending)) ≡ true }
     ensures { (next : Option ℕ) → let U = stated unit_meaning context.now.units.now in
         let old = kept_as run.old.store run.old.control region.old in
         let new = kept_as run.new.store run.new.control region.new in
-        IsCycle U context.now.part context.now.delay line.now next old new (Ran None false) }
+        let line = line_said row.now in
+        IsCycle U context.now.part context.now.delay line next old new (Ran None false) }
 {
     let part = context.part;
     let results = Results::of(region, part);
-    write_in_place(&mut run.store.places, &results, line.writes.as_slice());
+    write_in_place(&mut run.store.places, &results, row.writes.as_slice());
     start_in_place(
         &mut run.store,
         region,
         part,
         context.units,
-        line.starts.as_slice(),
+        row.starts.as_slice(),
     );
-    let acting = acting_in(&run.store.places, &Results::of(region, part), line);
+    let controls = row.controls.as_slice();
+    let acting = acting_said(&run.store.places, &Results::of(region, part), controls);
     come_on(region);
     run.store.cycle += 1;
     run.control.advance(acting, run.store.cycle, context.delay);

@@ -10,11 +10,13 @@ ghost use Rattle.tta_sim.specs.Results.{results_at, shown_by, AreThere};
 ghost use Rattle.tta_sim.specs.Lines.{source_word, word_read};
 ghost use Rattle.tta_sim.specs.Lines.{is_source_there, is_reading_there, is_write_there};
 ghost use Rattle.tta_sim.specs.Lines.{is_start_there, is_control_there, IsLineThere};
+ghost use Rattle.tta_sim.specs.Flat.{source_said, guard_said, reading_said};
 ghost use Rattle.tta_sim.specs.Known.{is_guard_known, is_guard_let, is_known};
 ghost use Rattle.tta_sim.specs.Known.{is_start_known, is_settled};
 
 use crate::decoded::{DecodedControl, DecodedSource, DecodedStart, DecodedWrite, Line, Reading};
-use crate::places::Places;
+use crate::flat::{FlatReading, FlatStart};
+use crate::places::{NO_PLACE, Places};
 use crate::results::{Part, Results};
 use tta_flight::Region;
 
@@ -114,36 +116,39 @@ pub fn is_settled(places: &Places, region: &Region, part: Part, line: &Line) -> 
 
 /// The word of a move's source, which has one.
 #[inline(always)]
-fn word_known(places: &Places, results: &Results<'_>, r: &Reading) -> u32
-    requires { IsTrue (is_source_there results.now.units r.now.src) }
-    ensures { result ≡ unwrap_or (source_word places.now (shown_by results.now) r.now.src) 0 }
+fn word_known(places: &Places, results: &Results<'_>, r: &FlatReading) -> u32
+    requires { IsTrue (is_source_there results.now.units (source_said r.now)) }
+    ensures { let src = source_said r.now in
+        result ≡ unwrap_or (source_word places.now (shown_by results.now) src) 0 }
 {
-    match r.src {
-        DecodedSource::Word(word) => word,
-        DecodedSource::Place(number) => places.at(number).unwrap_or(0),
-        DecodedSource::Port(unit) => results.port(unit).unwrap_or(0),
+    if r.src < NO_PLACE {
+        return places.at(r.src).unwrap_or(0);
     }
+    if r.src == NO_PLACE {
+        return r.word;
+    }
+    results.port(r.unit).unwrap_or(0)
 }
 
 /// Whether a move acts whose guard has a word, if it has one.
 #[inline(always)]
-fn is_let(places: &Places, r: &Reading) -> bool
-    requires there { option_map_or (λ g. nat_lt g.place place_count) r.now.guard true ≡ true }
-    requires known { is_guard_known places.now r.now.guard ≡ true }
-    ensures { result ≡ is_guard_let places.now r.now.guard }
+fn is_let(places: &Places, r: &FlatReading) -> bool
+    requires there { option_map_or (λ g. nat_lt g.place place_count) (guard_said r.now) true ≡ true }
+    requires known { is_guard_known places.now (guard_said r.now) ≡ true }
+    ensures { result ≡ is_guard_let places.now (guard_said r.now) }
 {
-    match r.guard {
-        None => true,
-        Some(g) => (places.at(g.place).unwrap_or(0) == 0) == g.inverted,
+    if r.guard == NO_PLACE {
+        return true;
     }
+    (places.at(r.guard).unwrap_or(0) == 0) == r.inverted
 }
 
 /// The word that a move takes, if it acts, where its guard and its source have words.
 #[inline(always)]
-pub fn read_known(places: &Places, results: &Results<'_>, r: &Reading) -> Option<u32>
-    requires there { IsTrue (is_reading_there results.now.units r.now) }
-    requires known { is_known places.now (shown_by results.now) r.now ≡ true }
-    ensures { result ≡ word_read places.now (shown_by results.now) r.now }
+pub fn read_known(places: &Places, results: &Results<'_>, r: &FlatReading) -> Option<u32>
+    requires there { IsTrue (is_reading_there results.now.units (reading_said r.now)) }
+    requires known { is_known places.now (shown_by results.now) (reading_said r.now) ≡ true }
+    ensures { result ≡ word_read places.now (shown_by results.now) (reading_said r.now) }
 {
     if !is_let(places, r) {
         return None;
@@ -153,7 +158,7 @@ pub fn read_known(places: &Places, results: &Results<'_>, r: &Reading) -> Option
 
 /// The word that an operation takes from its unit's operand port, 0 where it takes none.
 #[inline(always)]
-pub fn operand_known(places: &Places, s: &DecodedStart) -> u32
+pub fn operand_known(places: &Places, s: &FlatStart) -> u32
     requires { IsTrue (is_place (KeptOperand s.now.unit)) }
     ensures { result ≡ (if s.now.does.arity == 2
         then unwrap_or (slice_index_or places.now (number_of (KeptOperand s.now.unit)) None) 0 else 0) }
@@ -163,4 +168,25 @@ pub fn operand_known(places: &Places, s: &DecodedStart) -> u32
     } else {
         0
     }
+}
+
+/// The word that a move takes, if it acts and has one.
+#[inline(always)]
+pub fn read_said(places: &Places, results: &Results<'_>, r: &FlatReading) -> Option<u32>
+    requires { IsTrue (is_reading_there results.now.units (reading_said r.now)) }
+    ensures { result ≡ word_read places.now (shown_by results.now) (reading_said r.now) }
+{
+    if r.guard != NO_PLACE && places.at(r.guard).is_none() {
+        return None;
+    }
+    if !is_let(places, r) {
+        return None;
+    }
+    if r.src < NO_PLACE {
+        return places.at(r.src);
+    }
+    if r.src == NO_PLACE {
+        return Some(r.word);
+    }
+    results.port(r.unit)
 }

@@ -11,6 +11,7 @@ mod decoded;
 mod dues;
 mod ending;
 mod fault;
+mod flat;
 mod in_place;
 mod known;
 mod lines;

@@ -1,6 +1,6 @@
 //! What is known of a line.
 
-ghost use Rattle.std.specs.Prelude.{◌≡◌, true, map, IfOk};
+ghost use Rattle.std.specs.Prelude.{◌≡◌, true};
 ghost use Rattle.tta_sim.specs.Results.{results_at, shown_by, AreThere};
 ghost use Rattle.tta_sim.specs.Lines.{IsLineThere};
 ghost use Rattle.tta_sim.specs.Order.{is_in_order};
@@ -11,7 +11,6 @@ use crate::known::is_settled;
 use crate::order::is_in_order;
 use crate::places::Places;
 use crate::results::Part;
-use std::alloc::{AllocError, Global};
 use tta_flight::Region;
 
 /// What is known of a line that is to be carried out in place.
@@ -27,7 +26,7 @@ pub enum Mark {
 
 impl Mark {
     /// The mark of a line at the begin of a run.
-    fn of(line: &Line) -> Mark
+    pub fn of(line: &Line) -> Mark
         ensures { result ≡ mark_of line.now }
     {
         if is_in_order(line) {
@@ -35,6 +34,14 @@ impl Mark {
         } else {
             Mark::Apart
         }
+    }
+
+    /// Whether it says that all words are set that its line takes.
+    #[inline(always)]
+    pub fn is_settled(self) -> bool
+        ensures { result ≡ true → self ≡ Mark.Settled }
+    {
+        matches!(self, Mark::Settled)
     }
 
     /// Whether a line can be carried out in place and all words that it takes are set, which is noted
@@ -63,15 +70,4 @@ impl Mark {
             }
         }
     }
-}
-
-/// The marks of lines at the begin of a run.
-pub fn marks_of(alloc: Global, lines: &[Line]) -> Result<Vec<Mark>, AllocError>
-    ensures { IfOk result (λ v. v.items ≡ map mark_of lines.now) }
-{
-    let mut marks = Vec::new(alloc);
-    for line in lines {
-        marks.push(Mark::of(line))?;
-    }
-    Ok(marks)
 }

@@ -23,8 +23,11 @@ pub const OPERANDS: u32 = IMMEDIATES + 4 * IMMEDIATE_REGISTERS;
 /// Where the return address stands, after the operand ports of 32 units.
 pub const RETURN_ADDRESS: u32 = OPERANDS + 32;
 
+/// The number behind those of the places.
+pub const NO_PLACE: u32 = RETURN_ADDRESS + 1;
+
 /// How many places there are.
-pub const PLACES: usize = RETURN_ADDRESS as usize + 1;
+pub const PLACES: usize = NO_PLACE as usize;
 
 /// The words that registers, immediate registers, operand ports and the return address keep, where
 /// one was ever written. All stand in one row, with room for as many as any machine can have.

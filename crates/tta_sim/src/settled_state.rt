@@ -5,12 +5,12 @@ ghost use Rattle.tta_ops.specs.Set.{stated};
 ghost use Rattle.tta_code.specs.Cycle.{State, next as next_state};
 ghost use Rattle.tta_sim.specs.Results.{AreKept, HasUnits, units_of};
 ghost use Rattle.tta_sim.specs.Held.{StandsWith, IsSilentRun, IsStateOf};
-ghost use Rattle.tta_sim.specs.Known.{all_shown, AreMarked};
+ghost use Rattle.tta_sim.specs.Known.{all_shown, AreKnown};
 
 use crate::control::Phase;
 use crate::decoded::Line;
+use crate::flat::Row;
 use crate::in_place::{carry_in_place, is_free};
-use crate::mark::Mark;
 use crate::run::Context;
 use crate::state::{SimState, part_of};
 use tta_arch::Machine;
@@ -26,14 +26,42 @@ impl SimState {
         self.lines.as_slice()
     }
 
+    /// Notes of the line that comes next that all words are set which it takes, if that is so.
+    #[inline(never)]
+    pub(crate) fn settle(&self, region: &Region, rows: &mut Vec<Row>, m: &Machine, code: &Code)
+        requires loaded { IsStateOf m.now code.now self.now }
+        requires has_units { HasUnits 0 m.now region.now }
+        requires few { self.now.cycle < 2 ^ 62 }
+        requires known { AreKnown self.now.places (all_shown region.now) self.now.lines
+            rows.old.items }
+        ensures known { AreKnown self.now.places (all_shown region.now) self.now.lines
+            rows.new.items }
+    {
+        // So that it is known here that the machine's rules hold.
+        m.rules();
+        match self.run.control.phase {
+            Phase::Running => {}
+            Phase::Halted | Phase::Fault(_) => return,
+        }
+        // There is a row for each instruction of the code.
+        let pc = self.run.control.pc as usize;
+        if pc >= rows.len() {
+            return;
+        }
+        let line = &self.lines.as_slice()[pc];
+        let part = part_of(0, m);
+        let row = &mut rows[pc];
+        row.mark.settle(&self.run.store.places, region, part, line);
+    }
+
     /// Carries out one cycle of the code that was loaded in place, if the run goes on, the line is in
-    /// order, all words that it takes are set, and no fault can come. It answers whether it did; else
-    /// all stays. The region has the machine's units alone, and the marks say what is known of lines.
+    /// order, it is known that all words are set which it takes, and no fault can come. It answers
+    /// whether it did; else all stays. The region has the machine's units alone.
     #[inline(always)]
     pub(crate) fn cycle_in_place(
         &mut self,
         region: &mut Region,
-        marks: &mut Vec<Mark>,
+        rows: &[Row],
         m: &Machine,
         code: &Code,
         units: &UnitSet,
@@ -42,12 +70,10 @@ impl SimState {
         requires has_units { HasUnits 0 m.now region.old }
         requires own { length region.old.rings ≡ length m.now.units }
         requires few { self.old.cycle < 2 ^ 62 }
-        requires marked { AreMarked self.old.places (all_shown region.old) self.old.lines
-            marks.old.items }
+        requires known { AreKnown self.old.places (all_shown region.old) self.old.lines rows.now }
         ensures loaded { IsStateOf m.now code.now self.new }
         ensures kept { AreKept region.old region.new }
-        ensures marked { AreMarked self.new.places (all_shown region.new) self.new.lines
-            marks.new.items }
+        ensures known { AreKnown self.new.places (all_shown region.new) self.new.lines rows.now }
         ensures waits { result ≡ false → self.new ≡ self.old }
         ensures stays { result ≡ false → region.new ≡ region.old }
         ensures counted { self.new.cycle ≤ self.old.cycle + (if result then 1 else 0) }
@@ -62,25 +88,30 @@ impl SimState {
             Phase::Running => {}
             Phase::Halted | Phase::Fault(_) => return false,
         }
-        // There is a mark for each instruction of the code.
+        // There is a row for each instruction of the code.
         let pc = self.run.control.pc as usize;
-        if pc >= marks.len() {
+        if pc >= rows.len() {
             return false;
         }
-        let line = &self.lines.as_slice()[pc];
+        let row = &rows[pc];
+        if !row.mark.is_settled() {
+            return false;
+        }
         let context = Context {
             part: part_of(0, m),
             delay: m.control.delay,
             units,
         };
-        let store = &self.run.store;
-        if !marks[pc].settle(&store.places, region, context.part, line) {
+        if !is_free(
+            &self.run.store,
+            region,
+            context.part,
+            &self.run.control,
+            row,
+        ) {
             return false;
         }
-        if !is_free(store, region, context.part, &self.run.control, line) {
-            return false;
-        }
-        carry_in_place(&mut self.run, region, &context, line);
+        carry_in_place(&mut self.run, region, &context, row);
         true
     }
 }

@@ -18,7 +18,7 @@ ghost use Rattle.tta_sim.specs.Held.{cycles_of, goes_pure, is_halted, fault_numb
 ghost use Rattle.tta_sim.specs.declared.cycle_step.CycleStep.TheVariants.{Waiting};
 
 use crate::cycle_step::CycleStep;
-use crate::mark::{Mark, marks_of};
+use crate::flat::{Row, rows_of};
 use crate::state::SimState;
 use std::alloc::{AllocError, Global};
 use std::marker::Model;
@@ -36,20 +36,20 @@ const LONGEST: u8 = 16;
 pub struct Sim {
     pub(crate) state: SimState,
     pub(crate) region: Region,
-    /// What is known of each line of the code.
-    marks: Vec<Mark>,
+    /// The lines of the code in rows, with what is known of them.
+    rows: Vec<Row>,
 }
 
 impl Model for Sim {
     ghost use Rattle.tta_sim.specs.Held.{Held, held_with};
-    ghost use Rattle.tta_sim.specs.Known.{all_shown, AreMarked};
+    ghost use Rattle.tta_sim.specs.Known.{all_shown, AreKnown};
 
     ghost Value = { Held };
 
     ghost view = { λ s. held_with s.state s.region };
 
     ghost invariant = { λ s.
-        AreMarked s.state.places (all_shown s.region) s.state.lines s.marks.items };
+        AreKnown s.state.places (all_shown s.region) s.state.lines s.rows.items };
 }
 
 /// The longest latency that there is, for each of so many units.
@@ -76,7 +76,7 @@ impl Sim {
     /// is 0, and the data words are these.
     ///
     /// It takes all memory that the run needs: room for each register and port, for 16 results of
-    /// each unit that are to come, and for the code once more, decoded, with a mark for each line.
+    /// each unit that are to come, and for the code twice more, decoded and in rows, with a mark for each line.
     pub fn load(
         alloc: Global,
         m: &Machine,
@@ -91,11 +91,11 @@ impl Sim {
     {
         let state = SimState::load(alloc, m, code, memory)?;
         let region = region_of(alloc, m)?;
-        let marks = marks_of(alloc, state.lines())?;
+        let rows = rows_of(alloc, state.lines())?;
         Ok(Sim {
             state,
             region,
-            marks,
+            rows,
         })
     }
 
@@ -127,6 +127,15 @@ impl Sim {
         self.state.cycle(&mut self.region, 0, m, code, units, next)
     }
 
+    /// Notes of the line that comes next that all words are set which it takes, if that is so.
+    fn settle(&mut self, m: &Machine, code: &Code)
+        requires loaded { IsRunOf m.now code.now self.old }
+        requires few { self.old.cycle < 2 ^ 62 }
+        ensures { self.new ≡ self.old }
+    {
+        self.state.settle(&self.region, &mut self.rows, m, code);
+    }
+
     /// Carries out one cycle with a line that is in order and settled, in place, and answers whether
     /// it did.
     #[inline(always)]
@@ -140,7 +149,7 @@ impl Sim {
             → IsSilentRun (Stands self.new) s (if result then next_state U m.now code.now s else s) }
     {
         self.state
-            .cycle_in_place(&mut self.region, &mut self.marks, m, code, units)
+            .cycle_in_place(&mut self.region, self.rows.as_slice(), m, code, units)
     }
 
     /// Carries out one cycle with a pure line, and answers whether it did. It is not in line, since
@@ -159,8 +168,30 @@ impl Sim {
         self.state.cycle_pure(&mut self.region, 0, m, code, units)
     }
 
+    /// Carries out so many cycles in place, or as many as there are until a line is not carried out
+    /// so. It answers how many it carried out. It hands out no reference to what it reads itself, so
+    /// that this stays at hand.
+    #[inline(never)]
+    fn run_in_place(&mut self, m: &Machine, code: &Code, units: &UnitSet, most: u64) -> u64
+        requires loaded { IsRunOf m.now code.now self.old }
+        requires few { self.old.cycle + most < 2 ^ 62 }
+        ensures loaded { IsRunOf m.now code.now self.new }
+        ensures within { result ≤ most }
+        ensures counted { self.new.cycle ≤ self.old.cycle + result }
+        ensures next { let U = stated unit_meaning units.now in (s : State) → Stands self.old s
+            → IsSilentRun (Stands self.new) s (iterate result (next_state U m.now code.now) s) }
+    {
+        let mut made = 0;
+        'cycles: while made < most {
+            if !self.cycle_in_place(m, code, units) {
+                return made;
+            }
+            made += 1;
+        }
+        made
+    }
+
     /// Carries out one cycle as `run_silent` does, and answers whether it did.
-    #[inline(always)]
     fn cycle_silently(&mut self, m: &Machine, code: &Code, units: &UnitSet) -> bool
         requires loaded { IsRunOf m.now code.now self.old }
         requires few { self.old.cycle < 2 ^ 62 }
@@ -171,6 +202,7 @@ impl Sim {
         ensures next { let U = stated unit_meaning units.now in (s : State) → Stands self.old s
             → IsSilentRun (Stands self.new) s (if result then next_state U m.now code.now s else s) }
     {
+        self.settle(m, code);
         if self.cycle_in_place(m, code, units) {
             return true;
         }
@@ -195,6 +227,10 @@ impl Sim {
     {
         let mut made = 0;
         'cycles: while made < most {
+            made += self.run_in_place(m, code, units, most - made);
+            if made == most {
+                return made;
+            }
             if !self.cycle_silently(m, code, units) {
                 return made;
             }

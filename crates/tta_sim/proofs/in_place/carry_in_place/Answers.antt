@@ -2,7 +2,8 @@ use Rattle.std.proofs.Common.{◌≡◌, ◌+◌, ◌++◌, ℕ, true, false, Is
 use Rattle.std.specs.Prelude.{None, is_some, option_map, fold, slice_index_or}
 use Rattle.std.specs.Option.{unwrap_or}
 use Rattle.std.specs.List.{filter_map, find, list_any, AllByRecursion}
-use Rattle.tta_sim.specs.Cited.{Units, stated, Start, write_of, first_some, store_data, store_frame, takes}
+use Rattle.tta_sim.specs.Cited.{Units, stated, Start, are_different, write_of, first_some, store_data, store_frame, takes}
+use Rattle.tta_sim.specs.Order.{is_touched, is_barred}
 use Rattle.tta_sim.specs.declared.control.Control.{Control}
 use Rattle.tta_sim.specs.declared.decoded.Line.{Line}
 use Rattle.tta_sim.specs.declared.dues.Due.{Due}
@@ -13,14 +14,16 @@ use Rattle.tta_sim.specs.Results.{Results, results_at, shown_by}
 use Rattle.tta_sim.specs.Moves.{brought_of}
 use Rattle.tta_sim.specs.Starts.{puts, kind_and_word}
 use Rattle.tta_sim.specs.Writing.{long_writes}
-use Rattle.tta_sim.specs.Lines.{write_brought, control_brought, operand_in, is_ready}
+use Rattle.tta_sim.specs.Lines.{write_brought, control_brought, operand_in, is_ready, is_write_there, is_start_there, is_control_there}
 use Rattle.tta_sim.specs.Dues.{shown_from, started_at, CanAllBegin}
 use Rattle.tta_sim.specs.Ready.{writes_in, begun_in, AreLeft, Begin}
+use Rattle.tta_sim.specs.Flat.{write_said, start_said, control_said, line_said}
 use Rattle.tta_sim.specs.Known.{is_known, is_start_known}
 use Rattle.tta_sim.specs.InPlace.{starts_of_line, begun_here, dues_in, AreWritten, AreStarted}
 use Rattle.tta_sim.proofs.Acting.{carried_at}
 use Rattle.tta_sim.proofs.Ahead.{all_begin, none_beside}
 use Rattle.tta_sim.proofs.Beginning.{AreBegun, all_begun, others_begun}
+use Rattle.tta_sim.proofs.Flats.{all_said, first_said}
 use Rattle.tta_sim.proofs.Facing.{none_found, placed, acting_same}
 use Rattle.tta_sim.proofs.Growing.{written_grows, begun_grows}
 use Rattle.tta_sim.proofs.Leaving.{arrivals, starts, is_left}
@@ -37,10 +40,19 @@ pub write_in_place-requires-clause-known : goal.write_in_place-requires-clause-k
 write_in_place-requires-clause-known g c =
     let places = c.args.run.now.store.places in
     let r = results_at c.args.context.now.part c.args.region.now in
-    let line = c.args.line.now in
-    subst (λ ws. AllByRecursion (λ w. IsTrue (is_known places (shown_by c.of-results.result) w.reading)) ws) (sym c.as_slice.ensures)
+    let line = line_said c.args.row.now in
+    subst (λ ws. AllByRecursion (λ w. IsTrue (is_known places (shown_by c.of-results.result) w.reading)) ws) (sym (ap (map write_said) c.as_slice.ensures))
     (subst (λ q. AllByRecursion (λ w. IsTrue (is_known places (shown_by q) w.reading)) line.writes) (sym c.of-results.ensures)
     (all_known places (shown_by r) line c.requires.settled).writes)
+
+pub write_in_place-requires-clause-there : goal.write_in_place-requires-clause-there
+write_in_place-requires-clause-there g c =
+    subst (λ ws. AllByRecursion (λ w. IsTrue (is_write_there c.of-results.result.units w)) ws) (sym (ap (map write_said) c.as_slice.ensures))
+    (subst (λ q. AllByRecursion (λ w. IsTrue (is_write_there q.units w)) (line_said c.args.row.now).writes) (sym c.of-results.ensures) c.requires.ready.there.writes)
+
+pub write_in_place-requires-clause-order : goal.write_in_place-requires-clause-order
+write_in_place-requires-clause-order g c =
+    subst (λ ws. are_different is_touched ws ≡ true) (sym (ap (map write_said) c.as_slice.ensures)) (ordered (line_said c.args.row.now) c.requires.order).touched
 
 -- what is known once all words are written
 module _ (g : given.Over) (c : After-write_in_place g) where
@@ -56,44 +68,58 @@ module _ (g : given.Over) (c : After-write_in_place g) where
 
   -- the operations that start
   abbrev ts : List Start
-  ts = starts_of_line store r c.args.line.now
+  ts = starts_of_line store r (line_said c.args.row.now)
 
-  written : AreWritten store.places (writes_in store r c.args.line.now) after.places
+  written : AreWritten store.places (writes_in store r (line_said c.args.row.now)) after.places
   written =
-      subst (λ ws. AreWritten store.places (filter_map (write_brought store.places (shown_by r)) ws) after.places) c.as_slice.ensures
-      (subst (λ q. AreWritten store.places (filter_map (write_brought store.places (shown_by q)) c.as_slice.result.now) after.places) c.of-results.ensures c.write_in_place.ensures)
+      subst (λ ws. AreWritten store.places (filter_map (write_brought store.places (shown_by r)) ws) after.places) (ap (map write_said) c.as_slice.ensures)
+      (subst (λ q. AreWritten store.places (filter_map (write_brought store.places (shown_by q)) (map write_said c.as_slice.result.now)) after.places) c.of-results.ensures c.write_in_place.ensures)
 
-  begun_is : filter_map (begun_here after r) c.args.line.now.starts ≡ ts
-  begun_is = starts_begun store r c.args.line.now (ordered c.args.line.now c.requires.order) after written
+  begun_is : filter_map (begun_here after r) (line_said c.args.row.now).starts ≡ ts
+  begun_is = starts_begun store r (line_said c.args.row.now) (ordered (line_said c.args.row.now) c.requires.order) after written
 
-  known : AllByRecursion (λ s. IsTrue (is_start_known after.places (shown_by r) s)) c.args.line.now.starts
-  known = starts_known store r c.args.line.now (ordered c.args.line.now c.requires.order) after written (all_known store.places (shown_by r) c.args.line.now c.requires.settled)
+  known : AllByRecursion (λ s. IsTrue (is_start_known after.places (shown_by r) s)) (line_said c.args.row.now).starts
+  known = starts_known store r (line_said c.args.row.now) (ordered (line_said c.args.row.now) c.requires.order) after written (all_known store.places (shown_by r) (line_said c.args.row.now) c.requires.settled)
 
   module _ (U : Units) where
-    dues_are : dues_in U after r c.args.line.now.starts ≡ filter_map (shown_from U 0 store) ts
+    dues_are : dues_in U after r (line_said c.args.row.now).starts ≡ filter_map (shown_from U 0 store) ts
     dues_are = ap (filter_map (shown_from U 0 after)) begun_is
 
-    can : CanAllBegin r (dues_in U after r c.args.line.now.starts)
+    can : CanAllBegin r (dues_in U after r (line_said c.args.row.now).starts)
     can =
         subst (CanAllBegin r) (sym dues_are)
-        (dues_can U store.memory.items store.frame.items 0 r ts (c.requires.ready.fitting (operand_in store.places (writes_in store r c.args.line.now))) c.requires.free)
+        (dues_can U store.memory.items store.frame.items 0 r ts (c.requires.ready.fitting (operand_in store.places (writes_in store r (line_said c.args.row.now)))) c.requires.free)
 
 pub start_in_place-requires-clause-known : goal.start_in_place-requires-clause-known
 start_in_place-requires-clause-known g c =
     let at = (goal.at.start_in_place-requires-clause-known g c).After-write_in_place in
-    subst (λ ss. AllByRecursion (λ s. IsTrue (is_start_known c.write_in_place.new.places (shown_by (r g at)) s)) ss) (sym c.as_slice-2.ensures) (known g at)
+    subst (λ ss. AllByRecursion (λ s. IsTrue (is_start_known c.write_in_place.new.places (shown_by (r g at)) s)) ss) (sym (ap (map start_said) c.as_slice-2.ensures)) (known g at)
 
 pub start_in_place-requires-clause-can : goal.start_in_place-requires-clause-can
 start_in_place-requires-clause-can g c =
     let at = (goal.at.start_in_place-requires-clause-can g c).After-write_in_place in
     let U = stated (λ v. (goal.OpUnit-dyn g v).unit_meaning v.1) c.args.context.now.units.now in
-    subst (λ ss. CanAllBegin (r g at) (dues_in U (after g at) (r g at) ss)) (sym c.as_slice-2.ensures) (can g at U)
+    subst (λ ss. CanAllBegin (r g at) (dues_in U (after g at) (r g at) ss)) (sym (ap (map start_said) c.as_slice-2.ensures)) (can g at U)
+
+pub start_in_place-requires-clause-there : goal.start_in_place-requires-clause-there
+start_in_place-requires-clause-there g c =
+    subst (λ ss. AllByRecursion (λ s. IsTrue (is_start_there c.args.context.now.part.count s)) ss) (sym (ap (map start_said) c.as_slice-2.ensures)) c.requires.ready.there.starts
+
+pub start_in_place-requires-clause-order : goal.start_in_place-requires-clause-order
+start_in_place-requires-clause-order g c =
+    subst (λ ss. are_different is_barred ss ≡ true) (sym (ap (map start_said) c.as_slice-2.ensures)) (ordered (line_said c.args.row.now) c.requires.order).barred
 
 pub of-requires : goal.of-requires
 of-requires g c = record {
   few = c.requires.ready.units.few;
   there = omega (arith, c.requires.ready.units.there, (c.start_in_place.ensures.started 0).kept.units);
 }
+
+pub acting_said-acting-requires : goal.acting_said-acting-requires
+acting_said-acting-requires g c =
+    subst (λ ts. AllByRecursion (λ t. IsTrue (is_control_there c.of.result.units (control_said t))) ts) (sym c.as_slice-controls.ensures)
+    (subst (λ q. AllByRecursion (λ t. IsTrue (is_control_there q.units (control_said t))) c.args.row.now.controls) (sym c.of.ensures)
+    (all_said (λ t. IsTrue (is_control_there c.args.context.now.part.count t)) control_said c.args.row.now.controls c.requires.ready.there.controls))
 
 pub come_on-requires : goal.come_on-requires
 come_on-requires g c = omega (arith, c.requires.own.few, (c.start_in_place.ensures.started 0).kept.units)
@@ -103,17 +129,19 @@ returns g c =
     let at : After-write_in_place g = (goal.at.returns g c).After-write_in_place in
     let U : Units = stated (λ v. (goal.OpUnit-dyn g v).unit_meaning v.1) c.args.context.now.units.now in
     let control : Control = c.args.run.now.control in
-    let line : Line = c.args.line.now in
+    let line : Line = line_said c.args.row.now in
     let order : Ordered line = ordered line c.requires.order in
     let final : Store = record (c.start_in_place.new.store) { cycle = c.start_in_place.new.store.cycle + 1 } in
-    let begun : List Start = filter_map (begun_here (after g at) (r g at)) c.as_slice-2.result.now in
-    let begun_are : begun ≡ ts g at = ap (filter_map (begun_here (after g at) (r g at))) c.as_slice-2.ensures ∙ begun_is g at in
-    let moves_dues : List Due = dues_in U (after g at) (r g at) c.as_slice-2.result.now in
-    let dues : moves_dues ≡ dues_in U (after g at) (r g at) line.starts = ap (dues_in U (after g at) (r g at)) c.as_slice-2.ensures in
+    let said = map start_said c.as_slice-2.result.now in
+    let starts_are : said ≡ line.starts = ap (map start_said) c.as_slice-2.ensures in
+    let begun : List Start = filter_map (begun_here (after g at) (r g at)) said in
+    let begun_are : begun ≡ ts g at = ap (filter_map (begun_here (after g at) (r g at))) starts_are ∙ begun_is g at in
+    let moves_dues : List Due = dues_in U (after g at) (r g at) said in
+    let dues : moves_dues ≡ dues_in U (after g at) (r g at) line.starts = ap (dues_in U (after g at) (r g at)) starts_are in
     let moves_can : CanAllBegin (r g at) moves_dues = subst (CanAllBegin (r g at)) (sym dues) (can g at U) in
     let begun_at : (now : ℕ) → AreBegun now (r g at) (map (started_at now) moves_dues) c.come_on.new.region = λ now. all_begin now (r g at) moves_dues c.start_in_place.new.region c.come_on.new.region c.requires.ready.units moves_can (c.start_in_place.ensures.started now) c.come_on.ensures (none_beside (r g at).base (r g at).units c.args.region.now c.come_on.new.region c.requires.own.first c.requires.own.all) in
-    let started_first : AreStarted 0 (r g at) (map (started_at 0) (dues_in U (after g at) (r g at) line.starts)) c.start_in_place.new.region = subst (λ ss. AreStarted 0 (r g at) (map (started_at 0) (dues_in U (after g at) (r g at) ss)) c.start_in_place.new.region) c.as_slice-2.ensures (c.start_in_place.ensures.started 0) in
-    let acts : option_map kind_and_word c.acting_in-acting.result ≡ first_some (control_brought (store g at).places (shown_by (r g at))) line.controls = c.acting_in-acting.ensures ∙ ap (λ q. first_some (control_brought c.start_in_place.new.store.places (shown_by q)) line.controls) c.of.ensures ∙ ap (λ ps. first_some (control_brought ps (shown_by (results_at c.args.context.now.part c.start_in_place.new.region))) line.controls) c.start_in_place.ensures.places ∙ control_same (store g at) (r g at) line order (after g at) (written g at) U c.start_in_place.new.region started_first c.requires.ready.there in
+    let started_first : AreStarted 0 (r g at) (map (started_at 0) (dues_in U (after g at) (r g at) line.starts)) c.start_in_place.new.region = subst (λ ss. AreStarted 0 (r g at) (map (started_at 0) (dues_in U (after g at) (r g at) ss)) c.start_in_place.new.region) starts_are (c.start_in_place.ensures.started 0) in
+    let acts : option_map kind_and_word c.acting_said-acting.result ≡ first_some (control_brought (store g at).places (shown_by (r g at))) line.controls = c.acting_said-acting.ensures ∙ ap (first_some (λ t. control_brought c.start_in_place.new.store.places (shown_by c.of.result) (control_said t))) c.as_slice-controls.ensures ∙ sym (first_said (control_brought c.start_in_place.new.store.places (shown_by c.of.result)) control_said c.args.row.now.controls) ∙ ap (λ q. first_some (control_brought c.start_in_place.new.store.places (shown_by q)) line.controls) c.of.ensures ∙ ap (λ ps. first_some (control_brought ps (shown_by (results_at c.args.context.now.part c.start_in_place.new.region))) line.controls) c.start_in_place.ensures.places ∙ control_same (store g at) (r g at) line order (after g at) (written g at) U c.start_in_place.new.region started_first c.requires.ready.there in
     λ next. record {
       carried = λ m i lines s decoded size delay_is same fed.
           let p = is_some control.pending in

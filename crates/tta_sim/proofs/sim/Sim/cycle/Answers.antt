@@ -2,8 +2,8 @@ use Rattle.std.proofs.Common.{◌+◌, sym, ap, ◌∙◌, subst}
 use Rattle.tta_sim.specs.Cited.{stated}
 use Rattle.tta_code.specs.Cycle.{next as next_state}
 use Rattle.tta_sim.specs.Held.{Stands, IsRunOf, held_with, cycles_of}
-use Rattle.tta_sim.specs.Known.{all_shown, AreMarked}
-use Rattle.tta_sim.proofs.Marking.{marked_grows}
+use Rattle.tta_sim.specs.Known.{all_shown}
+use Rattle.tta_sim.proofs.Marking.{known_kept}
 use Rattle.tta_sim.proofs.Owning.{own_run, own_goes, state_stands, state_run, units_still}
 use Rattle.tta_sim.proofs.sim.Sim.cycle.Goals as goal
 
@@ -47,7 +47,6 @@ returns-clause-waits g c = λ is. ap (λ h. held_with h c.cycle.new.region) (c.c
 pub invariant_of-self : goal.invariant_of-self
 invariant_of-self g c =
     let run = subst (IsRunOf c.args.m.now c.args.code.now) (sym c.self.view_is) c.requires.loaded in
-    let lines = c.cycle.ensures.loaded.decoded ∙ sym run.decoded in
-    subst (λ ls. AreMarked c.cycle.new.self.places (all_shown c.cycle.new.region) ls c.self.inside.marks.items) (sym lines)
-    (marked_grows c.self.inside.state.places c.cycle.new.self.places (all_shown c.self.inside.region) (all_shown c.cycle.new.region) c.cycle.ensures.words.places c.cycle.ensures.words.ports
-    c.self.inside.state.lines c.self.inside.marks.items c.self.invariant)
+    let did = c.cycle.ensures in
+    known_kept c.self.inside.state.places c.cycle.new.self.places (all_shown c.self.inside.region) (all_shown c.cycle.new.region) did.words.places did.words.ports
+    c.self.inside.state.lines c.cycle.new.self.lines (did.loaded.decoded ∙ sym run.decoded) c.self.inside.rows.items c.self.invariant

@@ -1,7 +1,7 @@
 use Rattle.std.proofs.Common.{sym, ◌∙◌, subst}
 use Rattle.tta_sim.specs.Held.{Stands, IsRunOf}
-use Rattle.tta_sim.specs.Known.{all_shown, AreMarked}
-use Rattle.tta_sim.proofs.Marking.{marked_grows}
+use Rattle.tta_sim.specs.Known.{all_shown}
+use Rattle.tta_sim.proofs.Marking.{known_kept}
 use Rattle.tta_sim.proofs.Owning.{own_run, own_stands, state_stands, state_run, units_still}
 use Rattle.tta_sim.proofs.sim.Sim.cycle_pure.Goals as goal
 
@@ -35,7 +35,6 @@ returns-clause-next g c = λ s same.
 pub invariant_of-self : goal.invariant_of-self
 invariant_of-self g c =
     let run = subst (IsRunOf c.args.m.now c.args.code.now) (sym c.self.view_is) c.requires.loaded in
-    let lines = c.cycle_pure.ensures.loaded.decoded ∙ sym run.decoded in
-    subst (λ ls. AreMarked c.cycle_pure.new.self.places (all_shown c.cycle_pure.new.region) ls c.self.inside.marks.items) (sym lines)
-    (marked_grows c.self.inside.state.places c.cycle_pure.new.self.places (all_shown c.self.inside.region) (all_shown c.cycle_pure.new.region) c.cycle_pure.ensures.words.places c.cycle_pure.ensures.words.ports
-    c.self.inside.state.lines c.self.inside.marks.items c.self.invariant)
+    let did = c.cycle_pure.ensures in
+    known_kept c.self.inside.state.places c.cycle_pure.new.self.places (all_shown c.self.inside.region) (all_shown c.cycle_pure.new.region) did.words.places did.words.ports
+    c.self.inside.state.lines c.cycle_pure.new.self.lines (did.loaded.decoded ∙ sym run.decoded) c.self.inside.rows.items c.self.invariant

@@ -1,8 +1,9 @@
 use Rattle.std.proofs.Common.{map, sym, ap, ◌∙◌, subst}
 use Rattle.tta_sim.specs.Cited.{start}
 use Rattle.tta_sim.specs.Results.{units_of}
-use Rattle.tta_sim.specs.Known.{mark_of, all_shown, AreMarked}
-use Rattle.tta_sim.proofs.Marking.{first_marked}
+use Rattle.tta_sim.specs.Flat.{row_with}
+use Rattle.tta_sim.specs.Known.{mark_of, all_shown, AreKnown}
+use Rattle.tta_sim.proofs.Marking.{first_known}
 use Rattle.tta_sim.proofs.Owning.{own_run, own_stands}
 use Rattle.tta_sim.proofs.sim.Sim.load.Goals as goal
 
@@ -18,5 +19,5 @@ returns-clause-loaded c =
 pub invariant_of-result : goal.invariant_of-result
 invariant_of-result c =
     let state = c.in_ok-state.state in
-    let lines = c.in_ok-marks.ensures ∙ ap (map mark_of) c.lines.ensures in
-    subst (AreMarked state.places (all_shown c.in_ok-region.region) state.lines) (sym lines) (first_marked state.places (all_shown c.in_ok-region.region) state.lines)
+    let rows = c.in_ok-rows.ensures ∙ ap (map (λ l. row_with (mark_of l) l)) c.lines.ensures in
+    subst (AreKnown state.places (all_shown c.in_ok-region.region) state.lines) (sym rows) (first_known state.places (all_shown c.in_ok-region.region) state.lines)
