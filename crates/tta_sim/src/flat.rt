@@ -130,7 +130,7 @@ fn flat_of(r: &Reading) -> FlatReading
 fn flat_writes(alloc: Global, moves: &[DecodedWrite]) -> Result<Items<FlatWrite>, AllocError>
     ensures { IfOk result (λ v. v ≡ map flat_write moves.now) }
 {
-    let mut flat = Items::new(alloc);
+    let mut flat = Vec::with_capacity(alloc, moves.len())?;
     for w in moves {
         flat.push(FlatWrite {
             reading: flat_of(&w.reading),
@@ -138,14 +138,14 @@ fn flat_writes(alloc: Global, moves: &[DecodedWrite]) -> Result<Items<FlatWrite>
             narrow: w.narrow,
         })?;
     }
-    Ok(flat)
+    Ok(Items::of(flat))
 }
 
 /// The starts, flat.
 fn flat_starts(alloc: Global, moves: &[DecodedStart]) -> Result<Items<FlatStart>, AllocError>
     ensures { IfOk result (λ v. v ≡ map flat_start moves.now) }
 {
-    let mut flat = Items::new(alloc);
+    let mut flat = Vec::with_capacity(alloc, moves.len())?;
     for s in moves {
         flat.push(FlatStart {
             reading: flat_of(&s.reading),
@@ -153,21 +153,21 @@ fn flat_starts(alloc: Global, moves: &[DecodedStart]) -> Result<Items<FlatStart>
             does: s.does,
         })?;
     }
-    Ok(flat)
+    Ok(Items::of(flat))
 }
 
 /// The control moves, flat.
 fn flat_controls(alloc: Global, moves: &[DecodedControl]) -> Result<Items<FlatControl>, AllocError>
     ensures { IfOk result (λ v. v ≡ map flat_control moves.now) }
 {
-    let mut flat = Items::new(alloc);
+    let mut flat = Vec::with_capacity(alloc, moves.len())?;
     for t in moves {
         flat.push(FlatControl {
             reading: flat_of(&t.reading),
             kind: t.kind,
         })?;
     }
-    Ok(flat)
+    Ok(Items::of(flat))
 }
 
 /// The row of a line at the begin of a run.
@@ -189,7 +189,7 @@ fn row_of(alloc: Global, line: &Line) -> Result<Row, AllocError>
 pub fn rows_of(alloc: Global, lines: &[Line]) -> Result<Vec<Row>, AllocError>
     ensures { IfOk result (λ v. v.items ≡ map (λ l. row_with (mark_of l) l) lines.now) }
 {
-    let mut rows = Vec::new(alloc);
+    let mut rows = Vec::with_capacity(alloc, lines.len())?;
     for line in lines {
         let row = row_of(alloc, line)?;
         rows.push(row)?;
