@@ -167,6 +167,11 @@ best_more m b t p q r best trail is same = by (nat_lt q.placed.length p.placed.l
   by true e this = subst (IsBest m b) (sym this) (newer e)
   by false e this = subst (IsBest m b) (sym this) (stays e)
 
+-- a shorter placement of a trail is the best
+pub best_shorter : (m : Machine) (b : BlockList) (t : Derivation) (p q : Chosen) → IsBest m b p → IsTrail m b t → IsFitOf m t q
+    → nat_lt q.placed.length p.placed.length ≡ true → IsBest m b q
+best_shorter m b t p q best trail is less = best_more m b t p q q best trail is (sym (ap (λ (c : Bool). if c then q else p) less))
+
 -- ---- the lists whose placements were chosen
 
 -- a candidate of a block with its placement

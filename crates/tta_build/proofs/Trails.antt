@@ -75,6 +75,16 @@ trail_candidate m b t is =
 pub trail_list : (m : Machine) (b : BlockList) (t : Derivation) → IsTrail m b t → is_list m b.items ≡ true → is_list m (last_of t).items ≡ true
 trail_list m b t is there = (trail_candidate m b t is).stands.spare.list there
 
+-- the list after its first round is one, too
+pub first_list : (m : Machine) (b : BlockList) (t : Derivation) → IsTrail m b t → is_list m b.items ≡ true → is_list m t.rounds.first.passed.lively.items ≡ true
+first_list m b t is there =
+    round_list m (start_of b t.start) t.rounds.first is.rounds.first ((start_stands m b t.start is.start).spare.list there)
+
+-- with another second round a trail is a trail of the block
+pub trail_with : (m : Machine) (b : BlockList) (t : Derivation) (n : Round) → IsTrail m b t → IsRound m t.rounds.first.passed.lively n
+    → IsTrail m b (record { start = t.start; rounds = record { first = t.rounds.first; second = Some n } })
+trail_with m b t n is second = record { start = is.start; rounds = record { first = is.rounds.first; second = second } }
+
 -- ---- some trails of a block
 
 -- one trail more

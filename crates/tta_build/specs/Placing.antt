@@ -4,11 +4,12 @@ use Rattle.tta_build.specs.Cited.{Machine, BlockList, Respects, IsFirstFit, HasR
 use Rattle.tta_build.specs.declared.trail.Derivation.{Derivation}
 use Rattle.tta_build.specs.declared.candidates.Bound.{Bound}
 use Rattle.tta_build.specs.declared.candidates.Choices.{Choices}
+use Rattle.tta_build.specs.declared.second_round.RoundFit.{RoundFit}
 use Rattle.tta_build.specs.declared.best_candidate.Chosen.{Chosen}
 use Rattle.tta_build.specs.declared.best_candidate.Placements.{Placements}
 use Rattle.tta_build.specs.declared.best_candidate.Planned.{Planned}
 use Rattle.tta_build.specs.Candidates.{IsChosen, AreChosen}
-use Rattle.tta_build.specs.Derivation.{AreRounds, IsTrail, AreTrails, last_of, lasts_of}
+use Rattle.tta_build.specs.Derivation.{IsRound, AreRounds, IsTrail, AreTrails, last_of, lasts_of}
 
 -- ---- candidates
 
@@ -30,6 +31,13 @@ pub record IsFitOf (m : Machine) (t : Derivation) (r : Chosen) : Type 0 where
   pub first : IsFirstFit m (last_of t).items r.placed
   pub respects : Respects m (last_of t).items r.placed
   pub room : HasRoom m (last_of t).items r.placed
+
+-- a round of a list is kept with a first fit, which has room, of the list after it
+pub record IsRoundFit (m : Machine) (list : BlockList) (r : RoundFit) : Type 0 where
+  pub round : IsRound m list r.round
+  pub first : IsFirstFit m r.round.passed.lively.items r.placed
+  pub respects : Respects m r.round.passed.lively.items r.placed
+  pub room : HasRoom m r.round.passed.lively.items r.placed
 
 -- The placement of a block is the shortest of its candidates, and a first fit of the list to which its trail leads.
 pub record IsBest (m : Machine) (b : BlockList) (r : Chosen) : Type 0 where

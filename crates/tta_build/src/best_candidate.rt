@@ -4,13 +4,17 @@ ghost use Rattle.std.specs.Prelude.{◌≡◌, true, IfOk};
 ghost use Rattle.std.specs.List.{list_all};
 ghost use Rattle.tta_moves.specs.Slots.{is_list};
 ghost use Rattle.tta_build.specs.Derivation.{AreTrailsOf, last_of};
-ghost use Rattle.tta_build.specs.Placing.{IsFitOf, IsBest};
+ghost use Rattle.tta_arch.specs.Machine.{Machine};
+ghost use Rattle.tta_moves.specs.declared.items.BlockList.{BlockList};
+ghost use Rattle.tta_build.specs.Placing.{IsFitOf, IsBest, IsRoundFit};
 ghost use Rattle.tta_build.specs.Placing.{ArePlacements, ArePlanned};
 
 use crate::candidates::Candidates;
+use crate::inner_loops::{in_inner_loops, is_marked};
 use crate::keeping::{beside, chosen};
 use crate::least::Earliest;
-use crate::trail::Derivation;
+use crate::second_round::{RoundFit, is_worth, second_round};
+use crate::trail::{Derivation, Rounds, are_served};
 use std::alloc::{AllocError, Global};
 use tta_arch::Machine;
 use tta_connect::BuildTarget;
@@ -75,12 +79,24 @@ fn shortest(
     Ok(best)
 }
 
-/// Whether trails come of a list in which loads are served.
-fn are_served(trails: &[Derivation]) -> bool {
-    match trails.get(0) {
-        None => false,
-        Some(trail) => trail.start.served.is_some(),
+/// The shorter of a placement and that with another second round of its trail.
+fn shorter_with(so_far: Chosen, fit: RoundFit) -> Chosen
+    ensures { (m : Machine) (b : BlockList) → IsBest m b so_far
+        → IsRoundFit m so_far.trail.rounds.first.passed.lively fit → IsBest m b result }
+{
+    if fit.placed.length >= so_far.placed.length {
+        return so_far;
     }
+    let Chosen { trail, .. } = so_far;
+    let Derivation { start, rounds } = trail;
+    let Rounds { first, .. } = rounds;
+    let RoundFit { round, placed } = fit;
+    let rounds = Rounds {
+        first,
+        second: Some(round),
+    };
+    let trail = Derivation { start, rounds };
+    Chosen { trail, placed }
 }
 
 /// What places one block after another. Its tables take their memory once.
@@ -137,19 +153,47 @@ impl Chooser {
         shortest(alloc, &mut self.placer, on, b, best, more)
     }
 
-    /// The shortest first fit of a block's candidates. They are made in turn, until one takes as few
-    /// cycles as any could. It fails only where there is no memory.
-    fn place(
+    /// The shorter of a placement and that with a second round of its trail by the latest cycles. It fails
+    /// only where there is no memory.
+    fn with_latest(
         &mut self,
         alloc: Global,
         on: &BuildTarget<'_>,
         b: &BlockList,
+        so_far: Chosen,
+    ) -> Result<Chosen, AllocError>
+        requires list { is_list on.now.joined.machine.now b.now.items ≡ true }
+        requires best { IsBest on.now.joined.machine.now b.now so_far }
+        ensures { IfOk result (λ r. IsBest on.now.joined.machine.now b.now r) }
+    {
+        let rounder = &mut self.candidates.rounder;
+        let fit = second_round(
+            alloc,
+            &mut self.placer,
+            rounder,
+            on,
+            so_far.trail.rounds.first.last(),
+        );
+        let (best, fit) = beside(so_far, fit)?;
+        match fit {
+            Some(fit) => Ok(shorter_with(best, fit)),
+            None => Ok(best),
+        }
+    }
+
+    /// The shortest first fit of a block's candidates but that by the latest cycles. They are made in turn,
+    /// until one takes no more than the least cycles. It fails only where there is no memory.
+    fn place_first(
+        &mut self,
+        alloc: Global,
+        on: &BuildTarget<'_>,
+        b: &BlockList,
+        least: u32,
     ) -> Result<Chosen, AllocError>
         requires list { is_list on.now.joined.machine.now b.now.items ≡ true }
         ensures { IfOk result (λ r. IsBest on.now.joined.machine.now b.now r) }
     {
         let first = self.plain(alloc, on, b)?;
-        let least = self.earliest.cycles(on.joined.machine, b.items.as_slice());
         if first.placed.length <= least {
             return Ok(first);
         }
@@ -161,6 +205,27 @@ impl Chooser {
             return Ok(best);
         }
         self.with_last(alloc, on, b, best)
+    }
+
+    /// The shortest first fit of a block's candidates, of which there is one more for a short list of an
+    /// innermost loop. It fails only where there is no memory.
+    fn place(
+        &mut self,
+        alloc: Global,
+        on: &BuildTarget<'_>,
+        b: &BlockList,
+        is_inner: bool,
+    ) -> Result<Chosen, AllocError>
+        requires list { is_list on.now.joined.machine.now b.now.items ≡ true }
+        ensures { IfOk result (λ r. IsBest on.now.joined.machine.now b.now r) }
+    {
+        let least = self.earliest.cycles(on.joined.machine, b.items.as_slice());
+        let best = self.place_first(alloc, on, b, least)?;
+        if is_inner && is_worth(b.items.len(), best.placed.length, least) {
+            self.with_latest(alloc, on, b, best)
+        } else {
+            Ok(best)
+        }
     }
 }
 
@@ -181,10 +246,12 @@ fn place_each(
     requires lists { list_all (λ b. is_list on.now.joined.machine.now b.items) blocks.now ≡ true }
     ensures { IfOk result (λ r. ArePlacements on.now.joined.machine.now blocks.now r) }
 {
+    let inner = in_inner_loops(alloc, blocks)?;
     let mut trails = Vec::new(alloc);
     let mut all = Vec::new(alloc);
     for b in blocks {
-        let Chosen { trail, placed } = chooser.place(alloc, on, b)?;
+        let is_inner = is_marked(inner.as_slice(), all.len());
+        let Chosen { trail, placed } = chooser.place(alloc, on, b, is_inner)?;
         trails.push(trail)?;
         all.push(placed)?;
     }

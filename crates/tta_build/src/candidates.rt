@@ -44,7 +44,7 @@ pub struct Bound {
 /// What makes the candidates of one block after another. Its tables take their memory once.
 #[derive(Drop)]
 pub struct Candidates {
-    rounder: Rounder,
+    pub rounder: Rounder,
     reloads: Reloads,
 }
 

@@ -13,7 +13,7 @@ use crate::ways::Way;
 use std::alloc::{AllocError, Global};
 use tta_bind::{Dealing, bind};
 use tta_connect::BuildTarget;
-use tta_moves::BlockList;
+use tta_moves::{BlockList, Placed};
 use tta_optim::Passes;
 use tta_reorder::{Orders, Rule, Ties};
 
@@ -194,6 +194,27 @@ impl Rounder {
             .orders
             .order(alloc, list, &on.joined, Rule::Items(ties))?
         {
+            Some(other) => {
+                let round = self.in_order(alloc, on, other, Order::Items)?;
+                Ok(Some(round))
+            }
+            None => Ok(None),
+        }
+    }
+
+    /// The round by the latest cycles of a placement of a list; none where that is the list's own order.
+    /// It fails only where there is no memory.
+    pub fn by_latest(
+        &mut self,
+        alloc: Global,
+        on: &BuildTarget<'_>,
+        list: &BlockList,
+        placed: &Placed,
+    ) -> Result<Option<Round>, AllocError>
+        requires list { is_list on.now.joined.machine.now list.now.items ≡ true }
+        ensures { IfOk result (λ o. IfSome o (λ r. IsRound on.now.joined.machine.now list.now r)) }
+    {
+        match self.orders.by_latest(alloc, list, &on.joined, placed)? {
             Some(other) => {
                 let round = self.in_order(alloc, on, other, Order::Items)?;
                 Ok(Some(round))

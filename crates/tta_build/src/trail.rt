@@ -85,6 +85,14 @@ impl Derivation {
     }
 }
 
+/// Whether trails come of a list in which loads are served.
+pub fn are_served(trails: &[Derivation]) -> bool {
+    match trails.get(0) {
+        None => false,
+        Some(trail) => trail.start.served.is_some(),
+    }
+}
+
 /// A copy of a list. It fails only where there is no memory.
 pub fn copied(alloc: Global, b: &BlockList) -> Result<BlockList, AllocError>
     ensures { IfOk result (λ r. r ≡ b.now) }

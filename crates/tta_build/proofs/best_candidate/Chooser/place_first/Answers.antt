@@ -5,7 +5,7 @@ use Rattle.std.proofs.lemmas.Result.{IfOk-at_ok}
 use Rattle.tta_build.specs.declared.trail.Derivation.{Derivation}
 use Rattle.tta_build.specs.Derivation.{AreTrailsOf}
 use Rattle.tta_build.specs.Placing.{IsBest}
-use Rattle.tta_build.proofs.best_candidate.Chooser.place.Goals as goal
+use Rattle.tta_build.proofs.best_candidate.Chooser.place_first.Goals as goal
 
 pub shortest-requires : goal.shortest-requires
 shortest-requires c =
