@@ -20,7 +20,8 @@ use tta_list::Items;
 pub struct FlatReading {
     /// The word of a source that is one.
     pub word: u32,
-    /// The place that is the source; `NO_PLACE` where it is a word, and more where it is a result port.
+    /// The place that is the source; `NO_PLACE` where the source is a word, and more where it is a
+    /// result port.
     pub src: u32,
     /// The place of the guard's register, `NO_PLACE` where there is no guard.
     pub guard: u32,

@@ -164,7 +164,8 @@ pub fn start_in_place(
         ≡ fold store_frame store.old.frame.items (filter_map begun (map start_said moves.now)) }
     ensures started { (now : ℕ) → let U = stated unit_meaning units.now in
         let r = results_at part region.old in
-        AreStarted now r (map (started_at now) (dues_in U store.old r (map start_said moves.now))) region.new }
+        let dues = dues_in U store.old r (map start_said moves.now) in
+        AreStarted now r (map (started_at now) dues) region.new }
 {
     region.pass_all();
     for s in moves {

@@ -133,7 +133,8 @@ fn word_known(places: &Places, results: &Results<'_>, r: &FlatReading) -> u32
 /// Whether a move acts whose guard has a word, if it has one.
 #[inline(always)]
 fn is_let(places: &Places, r: &FlatReading) -> bool
-    requires there { option_map_or (λ g. nat_lt g.place place_count) (guard_said r.now) true ≡ true }
+    requires there { let within = option_map_or (λ g. nat_lt g.place place_count) in
+        within (guard_said r.now) true ≡ true }
     requires known { is_guard_known places.now (guard_said r.now) ≡ true }
     ensures { result ≡ is_guard_let places.now (guard_said r.now) }
 {

@@ -76,7 +76,8 @@ impl Sim {
     /// is 0, and the data words are these.
     ///
     /// It takes all memory that the run needs: room for each register and port, for 16 results of
-    /// each unit that are to come, and for the code twice more, decoded and in rows, with a mark for each line.
+    /// each unit that are to come, and for the code twice more, decoded and in rows, with a mark for
+    /// each line.
     pub fn load(
         alloc: Global,
         m: &Machine,
