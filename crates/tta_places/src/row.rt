@@ -28,6 +28,7 @@ pub struct Row {
 
 impl Model for Row {
     ghost use Rattle.std.specs.Prelude.{◌≡◌, ℕ, List, Option, length};
+    ghost use Rattle.tta_sim.specs.Places.{place_count};
 
     ghost Value = { List (Option ℕ) };
 
