@@ -1,6 +1,6 @@
 //! A procedure with what is known of it, and the variables for which its positions count.
 
-ghost use Rattle.std.specs.Prelude.{◌≡◌, ◌<◌, ◌≤◌, ◌-◌, ◌^◌, ◌&&◌, ◌||◌, ℕ, nat_lt, length};
+ghost use Rattle.std.specs.Prelude.{◌<◌, ◌≤◌, ◌-◌, ◌^◌, nat_lt, length};
 ghost use Rattle.tta_alloc.specs.Bodies.{counted, at_entry, at_step, Fills};
 ghost use Rattle.tta_flow.specs.Growth.{Sets};
 ghost use Rattle.tta_flow.specs.Steps.{assigns};

@@ -1,6 +1,6 @@
 //! The intervals of the variables of a procedure, and those that take part in its scan.
 
-ghost use Rattle.std.specs.Prelude.{◌≡◌, ◌++◌, ◌<◌, ℕ, false, IfOk, OnOk, option_to_list, IsPermutation};
+ghost use Rattle.std.specs.Prelude.{◌≡◌, ◌++◌, ◌<◌, ℕ, false, IfOk, OnOk, option_to_list};
 ghost use Rattle.tta_alloc.specs.AllIntervals.{AreIntervalsOf};
 ghost use Rattle.tta_alloc.specs.Bodies.{IsKnown};
 ghost use Rattle.tta_alloc.specs.Intervals.{AreTaken};

@@ -1,8 +1,8 @@
 //! The pieces of an assembly text.
 
-ghost use Rattle.std.specs.Prelude.{◌≡◌, ◌+◌, ◌^◌, ◌<◌, ◌≤◌, ◌∷◌, [], length, drop, map};
+ghost use Rattle.std.specs.Prelude.{◌≡◌, ◌+◌, ◌^◌, ◌<◌, ◌≤◌, [], length, drop};
 ghost use Rattle.std.specs.Prelude.{Some, None, IfOk, OnOk, vec_capacity};
-ghost use Rattle.tta_parse.specs.Lines.{is_line_end, plain};
+ghost use Rattle.tta_parse.specs.Lines.{plain};
 ghost use Rattle.tta_asm.specs.Calls.{Cuts, IsShorter};
 ghost use Rattle.tta_asm.specs.Pieces as spec;
 ghost use Rattle.tta_asm.specs.Seen.{piece_seen};

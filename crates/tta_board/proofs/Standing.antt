@@ -5,7 +5,7 @@ use Rattle.std.proofs.lemmas.Bool.{false≢true, ltb-true}
 use Rattle.std.proofs.lemmas.Option.{none-some}
 use Rattle.std.proofs.lemmas.List.{length-replicate}
 use Rattle.std.proofs.lemmas.Nat.{pow_pos}
-use Rattle.tta_board.specs.Cited.{Units, Machine, KeptPort, IsLegalCode, State, Outcome, Running, Halted, Waiting, Fault, start, is_set, settled, clocked, Code, Data, Frame, Pc, Whole, HasHalted, Underway, Goal, Ends, Keeps, IsDue, Due, HasBegun, Raw, IsInside, IsReset, Goes, same_signal, same_store, word_of, longest, loads, circuit_of, Hardware, fresh_in, StandsFor, is_fault, is_waiting}
+use Rattle.tta_board.specs.Cited.{Units, Machine, IsLegalCode, Outcome, Running, Halted, Waiting, Fault, start, is_set, settled, clocked, Code, Data, Frame, Pc, Whole, IsDue, Due, IsReset, Goes, same_signal, same_store, word_of, longest, circuit_of, Hardware, fresh_in, StandsFor, is_fault, is_waiting}
 use Rattle.tta_code.specs.declared.code.Code.{Code as Program}
 use Rattle.tta_hardware.specs.Signals.{Signal as Named}
 use Rattle.tta_hardware.proofs.Fetching.{low, fetched_at}

@@ -5,7 +5,7 @@ use Rattle.std.proofs.lemmas.Bool.{eq-eqb, and_from}
 use Rattle.tta_build.specs.Cited.{Units, Machine, Program, Placed, total_length}
 use Rattle.tta_build.specs.declared.error.BuildError.{BuildError}
 use Rattle.tta_build.specs.declared.error.BuildError.TheVariants.{NotCovered, NoUnit, FrameFull, CodeFull, NoMemory}
-use Rattle.tta_build.specs.Statement.{IsAccepted, Direct, Covered, BreaksRule, LacksUnit, LacksFrames, HasCause}
+use Rattle.tta_build.specs.Statement.{IsAccepted, Direct, Covered, BreaksRule, LacksUnit, LacksFrames}
 use Rattle.tta_build.specs.Converted.{IsBuiltWith, HasCauseWith}
 use Rattle.tta_build.specs.Excludes.{go_together, is_beside_code, CausesExclude, CodeExcludes, FullExcludes}
 

@@ -1,5 +1,5 @@
 -- Trails lead to candidates of their blocks.
-use Rattle.std.proofs.Common.{◌≡◌, ℕ, zero, suc, true, List, [], ◌∷◌, ◌++◌, Option, Some, None, refl, sym, ap, subst, slice_get, length, ◌⊎◌, inl, inr}
+use Rattle.std.proofs.Common.{◌≡◌, ℕ, true, List, [], ◌∷◌, ◌++◌, Option, Some, None, refl, sym, subst, slice_get, length, ◌⊎◌, inl, inr}
 use Rattle.std.specs.Prelude.{IfSome, unwrap_or, Result, Ok, OnOk}
 use Rattle.std.specs.Option.{option_map_or}
 use Rattle.tta_list.proofs.Lists.{slice_get-push, slice_get-longer}

@@ -1,7 +1,7 @@
 //! How the list that is placed for a block came of the selected one.
 
 ghost use Rattle.std.specs.Prelude.{◌≡◌, IfOk};
-ghost use Rattle.tta_build.specs.Derivation.{last_of, rounds_last, start_of};
+ghost use Rattle.tta_build.specs.Derivation.{last_of, rounds_last};
 
 use std::alloc::{AllocError, Global};
 use tta_list::Items;

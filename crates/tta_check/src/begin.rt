@@ -1,7 +1,6 @@
 //! The first abstract state.
 
-ghost use Rattle.std.specs.Prelude.{◌≡◌, map, replicate, IfOk};
-ghost use Rattle.tta_check.specs.States.{idle};
+ghost use Rattle.std.specs.Prelude.{◌≡◌, map, IfOk};
 ghost use Rattle.tta_check.specs.Joins.{unwritten_at, IsFirst};
 
 use crate::location::Location;

@@ -1,9 +1,9 @@
 //! The transfer function of an instruction: what a cycle makes of an abstract state.
 
-ghost use Rattle.std.specs.Prelude.{◌≡◌, ◌≤◌, map, length, IfOk, IsTrue};
+ghost use Rattle.std.specs.Prelude.{◌≡◌, ◌≤◌, map, length, IfOk};
 ghost use Rattle.tta_code.specs.Cycle.{effects_of};
 ghost use Rattle.tta_check.specs.States.{place_of};
-ghost use Rattle.tta_check.specs.Steps.{write_into, cell_from, has_latency};
+ghost use Rattle.tta_check.specs.Steps.{write_into, cell_from};
 ghost use Rattle.tta_check.specs.Transfers.{kept_after, ports_after, have_latency};
 
 use crate::effects::{start_on, write_into};

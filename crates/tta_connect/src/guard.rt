@@ -1,6 +1,6 @@
 //! The third rule: the register that keeps conditions.
 
-ghost use Rattle.std.specs.Prelude.{◌≡◌, ℕ, true, IsTrue};
+ghost use Rattle.std.specs.Prelude.{◌≡◌, true};
 ghost use Rattle.tta_connect.specs.Coverage.{has_senses, can_guard, guard_in, guard_register};
 
 use crate::ends::{from, into, some_bus};

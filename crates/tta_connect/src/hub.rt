@@ -1,6 +1,6 @@
 //! The first two rules: the file through which all words go, and the words that reach it.
 
-ghost use Rattle.std.specs.Prelude.{◌≡◌, ℕ, None};
+ghost use Rattle.std.specs.Prelude.{◌≡◌, None};
 ghost use Rattle.std.specs.List.{list_any};
 ghost use Rattle.tta_arch.specs.declared.ends.Source.TheVariants as source;
 ghost use Rattle.tta_connect.specs.Coverage.{is_hub, hub_of, into, some_bus, buses_of};

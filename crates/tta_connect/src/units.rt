@@ -1,6 +1,6 @@
 //! The last rule: the units that all words can reach, and what they offer.
 
-ghost use Rattle.std.specs.Prelude.{◌≡◌, ◌&&◌, ◌||◌, ℕ, true, Some, None, is_some};
+ghost use Rattle.std.specs.Prelude.{◌≡◌, ◌&&◌, ℕ, true, Some, None, is_some};
 ghost use Rattle.std.specs.Option.{option_map_or};
 ghost use Rattle.tta_arch.specs.declared.ends.Source.TheVariants as source;
 ghost use Rattle.tta_arch.specs.Joins.{has_bit, has_socket, is_source_on};

@@ -2,11 +2,11 @@
 use Rattle.std.proofs.Common.{◌≡◌, ℕ, ◌+◌, ◌-◌, ◌≤◌, List, [], ◌∷◌, ◌++◌, map, length, take, drop, refl, sym, ap, ◌∙◌, arith}
 use Rattle.std.specs.List.{flat_map, enumerate_from}
 use Rattle.std.proofs.lemmas.List.Concat.{flat_map-cons}
-use Rattle.tta_cost.specs.Cited.{Dest, Machine, Expression, buses_to, hits, any_of, first_of, Cost, free, behind, beside, chosen, gate_depth}
+use Rattle.tta_cost.specs.Cited.{Dest, Machine, Expression, buses_to, hits, any_of, first_of, Cost, beside, chosen}
 use Rattle.tta_cost.proofs.Listed.{after_one}
 use Rattle.tta_hardware.specs.Wires.{reached}
 use Rattle.tta_cost.specs.Depths.{cost_of}
-use Rattle.tta_cost.specs.Chains.{bits_of, any_cost, first_cost}
+use Rattle.tta_cost.specs.Chains.{bits_of, first_cost}
 
 module _ (t : List ℕ) (m : Machine) where
   -- the cost of a chain of choices

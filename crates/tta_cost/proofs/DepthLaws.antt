@@ -1,10 +1,9 @@
 -- The depths of a machine's signals are those of its circuit.
 use Rattle.std.proofs.Common.{◌≡◌, ℕ, ◌-◌, Bool, true, false, List, [], ◌∷◌, ◌++◌, map, refl, ap, ◌∙◌}
-use Rattle.std.specs.Prelude.{if◌then◌else◌, slice_index}
+use Rattle.std.specs.Prelude.{if◌then◌else◌}
 use Rattle.std.specs.List.{flat_map, enumerate_from, range_with_len, AllByRecursion}
-use Rattle.std.proofs.lemmas.List.Concat.{flat_map-cons}
 use Rattle.tta_arch.specs.declared.parts.Unit.{Unit as OpUnit}
-use Rattle.tta_cost.specs.Cited.{Machine, UnitOp, Cost, AreDepths, circuit_with, signal_width, store_width, register, register_names, result_registers, load_registers, unit_registers, wire, wire_names, made_of, never, is_load, numbers, KeptReg, KeptImm, KeptOperand, KeptPort, KeptRa, Keeps, IsDue, Due, Underway, HasBegun, Raw, IsInside, Pc, Whole, HasHalted, Goal, Ends, IsOffered, Offer, IsReady, IsReset}
+use Rattle.tta_cost.specs.Cited.{Machine, UnitOp, register, register_names, result_registers, load_registers, unit_registers, wire, wire_names, made_of, never, is_load, numbers, KeptReg, KeptImm, KeptOperand, KeptPort, KeptRa, Keeps, IsDue, Due, Underway, HasBegun, Raw, IsInside, Pc, Whole, HasHalted, Goal, Ends, IsOffered, Offer, IsReady, IsReset}
 use Rattle.tta_hardware.specs.Signals.{Signal as Named}
 use Rattle.tta_hardware.specs.Wires.{longest}
 use Rattle.tta_cost.specs.Depths.{depth_of, cost_of}

@@ -1,7 +1,7 @@
 -- The depths of a machine's signals: each is that of its expression.
-use Rattle.std.proofs.Common.{◌≡◌, ℕ, zero, suc, ◌<◌, List, refl, ap, sym, ◌∙◌, arith}
+use Rattle.std.proofs.Common.{◌≡◌, ℕ, zero, suc, ◌<◌, List, refl, ap, ◌∙◌, arith}
 use Rattle.std.specs.Prelude.{slice_index}
-use Rattle.tta_cost.specs.Cited.{Machine, Place, Field, rank, made_of, signal_width, store_width, Cost, cost, at, beside, free, Pc, Whole, HasHalted, Underway, Goal, Ends, Keeps, IsDue, Due, HasBegun, Raw, IsInside, Port, IsOffered, Offer, IsReady, IsReset, Fetched, Word, Acts, Starts, Trigger, Operand, Controls, GoalNow, EndsNow, Lands, Asks, Gives, Goes, NextPc, Puts, PutWord, Watches, Boxes, GuardOf, IsShort, SourceOf, TemplateOf}
+use Rattle.tta_cost.specs.Cited.{Machine, Place, Field, rank, made_of, signal_width, store_width, Cost, at, beside, free, Pc, Whole, HasHalted, Underway, Goal, Ends, Keeps, IsDue, Due, HasBegun, Raw, IsInside, Port, IsOffered, Offer, IsReady, IsReset, Fetched, Word, Acts, Starts, Trigger, Operand, Controls, GoalNow, EndsNow, Lands, Asks, Gives, Goes, NextPc, Puts, PutWord, Watches, Boxes, GuardOf, IsShort, SourceOf, TemplateOf}
 use Rattle.tta_hardware.specs.Signals.{Signal as Named}
 use Rattle.tta_hardware.proofs.Ordered.{reads_lower}
 use Rattle.tta_measure.specs.Cost.{plus}

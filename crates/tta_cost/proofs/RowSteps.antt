@@ -1,5 +1,5 @@
 -- Rows of registers.
-use Rattle.std.proofs.Common.{◌≡◌, ℕ, ◌+◌, ◌-◌, ◌<◌, List, [], ◌∷◌, ◌≤◌, length, take, drop, get_or, map, refl, sym, ap, ◌∙◌, arith}
+use Rattle.std.proofs.Common.{◌≡◌, ℕ, ◌+◌, ◌-◌, ◌<◌, List, [], ◌∷◌, ◌≤◌, length, take, drop, get_or, map, refl, ap, ◌∙◌, arith}
 use Rattle.std.specs.List.{enumerate_from, flat_map, range_with_len}
 use Rattle.tta_cost.specs.Cited.{Machine, Cost, register}
 use Rattle.tta_cost.specs.declared.parts.Part.{Part}

@@ -8,7 +8,6 @@ use Rattle.tta_arch.specs.Joins.{has_bit}
 use Rattle.tta_circuit.specs.Widths.{is_sized}
 use Rattle.tta_cost.specs.Cited.{Machine, IsMachine, Expression, Select, Signal, Slice, Join, Whole, LongOf, signal_width, store_width, Cost, free, beside, chosen, shares_from}
 use Rattle.tta_hardware.specs.Parts.{above, buses_width, has_template, long_from, long_width}
-use Rattle.tta_hardware.specs.Sized.{Fits}
 use Rattle.tta_hardware.proofs.FieldsFit.{field_fits}
 use Rattle.tta_cost.specs.Chains.{AreWide, bits_of}
 use Rattle.tta_cost.specs.Depths.{cost_of}

@@ -2,7 +2,7 @@
 use Rattle.std.proofs.Common.{◌≡◌, ℕ, suc, zero, ◌+◌, ◌-◌, ◌<◌, List, [], ◌∷◌, ◌++◌, map, length, refl, sym, ap, ◌∙◌, arith}
 use Rattle.std.specs.List.{flat_map, enumerate_from, range_with_len}
 use Rattle.std.proofs.lemmas.List.Concat.{flat_map-cons}
-use Rattle.tta_cost.specs.Cited.{Machine, Cost, register, wire, made_of, numbers, all_fields, bus_wires, first_wires, unit_wires, wire_names, load_registers, result_registers, unit_registers, register_names, KeptOperand, KeptPort, KeptRa, Pc, Whole, HasHalted, Underway, Goal, Ends, Keeps, IsDue, Due, Port, Fetched, Controls, GoalNow, EndsNow, Lands, Asks, Gives, Goes, NextPc, Puts, PutWord}
+use Rattle.tta_cost.specs.Cited.{Machine, register, made_of, numbers, all_fields, bus_wires, first_wires, unit_wires, wire_names, load_registers, result_registers, unit_registers, register_names, KeptOperand, KeptPort, KeptRa, Pc, Whole, HasHalted, Underway, Goal, Ends, Keeps, IsDue, Due, Port, Fetched, Controls, GoalNow, EndsNow, Lands, Asks, Gives, Goes, NextPc, Puts, PutWord}
 use Rattle.tta_arch.specs.declared.parts.Unit.{Unit as OpUnit}
 use Rattle.tta_hardware.specs.Wires.{longest}
 use Rattle.tta_cost.specs.Rows.{file_row, imm_row}

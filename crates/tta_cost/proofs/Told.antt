@@ -1,5 +1,5 @@
 -- What is told does not depend on the words of memories, but on how many there are.
-use Rattle.std.proofs.Common.{◌≡◌, ℕ, ◌*◌, List, [], ◌++◌, codes, length, replicate, refl, ap, ◌∙◌, append_assoc, append-nil, sym}
+use Rattle.std.proofs.Common.{◌≡◌, ℕ, ◌*◌, List, [], ◌++◌, codes, length, replicate, ap, ◌∙◌, append_assoc, append-nil, sym}
 use Rattle.std.proofs.lemmas.List.{length-replicate}
 use Rattle.tta_cost.specs.Cited.{Units, Machine, circuit_with, word_width}
 use Rattle.tta_cost.specs.Operations.{operation_depths}

@@ -1,9 +1,9 @@
 -- Words of units have 32 bits.
-use Rattle.std.proofs.Common.{◌≡◌, ℕ, ◌+◌, ◌==◌, Bool, true, false, ◌&&◌, List, [], ◌∷◌, map, refl}
-use Rattle.std.specs.Prelude.{if◌then◌else◌, filter, nat_lt}
-use Rattle.tta_cost.specs.Cited.{Machine, UnitOp, Op, Expression, Signal, Starts, Due, HasBegun, first_of, has_result, nothing}
+use Rattle.std.proofs.Common.{◌≡◌, ℕ, ◌+◌, Bool, true, false, List, [], ◌∷◌, map, refl}
+use Rattle.std.specs.Prelude.{if◌then◌else◌, nat_lt}
+use Rattle.tta_cost.specs.Cited.{Machine, UnitOp, Op, Signal, Starts, Due, HasBegun, first_of, nothing}
 use Rattle.tta_arch.specs.declared.parts.Op.TheVariants.{Ldw, Stw, Ldf, Stf, Out, Take, Set}
-use Rattle.tta_hardware.specs.Wires.{coming, fresh, loads, longest, made, ops_of, read_word, result_of, timed}
+use Rattle.tta_hardware.specs.Wires.{coming, fresh, loads, longest, made, read_word, result_of, timed}
 use Rattle.tta_cost.specs.Chains.{bits_of}
 
 -- the word that an operation shows

@@ -1,6 +1,6 @@
 -- What the parts of a machine's circuit are made of.
 use Rattle.std.specs.Prelude.{ℕ, List, [], ◌∷◌, map, Option, None, Some, slice_index}
-use Rattle.tta_cost.specs.Cited.{Machine, Store, wire, register, Wire, Register, Memory, WritePort, Circuit, KeptReg, KeptImm, KeptOperand, KeptRa, KeptPort, signal_width, store_width, Cost, free, beside, register_cost, port_cost, Pc, Whole, HasHalted, Underway, Goal, Ends, Keeps, IsDue, Due, HasBegun, Raw, IsInside, Port, Fetched, Word, Acts, Starts, Trigger, Operand}
+use Rattle.tta_cost.specs.Cited.{Machine, Store, wire, register, Wire, Register, Memory, WritePort, Circuit, KeptReg, KeptImm, KeptOperand, KeptPort, signal_width, store_width, Cost, free, beside, register_cost, port_cost, Whole, Keeps, IsDue, Due, HasBegun, Raw, IsInside, Port, Fetched, Word, Acts, Starts, Trigger, Operand}
 use Rattle.tta_hardware.specs.Signals.{Signal as Named}
 use Rattle.tta_cost.specs.Depths.{depth_of, cost_of}
 use Rattle.tta_cost.specs.declared.parts.Part.{Part}

@@ -1,8 +1,8 @@
 //! What registers become, and when they take it.
 
-ghost use Rattle.std.specs.Prelude.{◌≡◌, ◌+◌, ◌-◌, ◌<◌, ◌≤◌, ◌==◌, ◌&&◌, if◌then◌else◌, map, filter, length};
+ghost use Rattle.std.specs.Prelude.{◌≡◌, ◌+◌, ◌-◌, ◌<◌, ◌≤◌, ◌==◌, ◌&&◌, map, filter, length};
 ghost use Rattle.std.specs.List.{enumerate_from};
-ghost use Rattle.tta_arch.specs.Effects.{KeptImm, KeptOperand, KeptPort, KeptRa, KeptReg, Place};
+ghost use Rattle.tta_arch.specs.Effects.{KeptImm, KeptPort, KeptRa, KeptReg};
 ghost use Rattle.tta_arch.specs.Fields.{template_width};
 ghost use Rattle.tta_circuit.specs.Circuit as c;
 ghost use Rattle.tta_cost.specs.Chains.{first_cost};

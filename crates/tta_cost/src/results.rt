@@ -2,7 +2,7 @@
 
 ghost use Rattle.std.specs.Prelude.{◌≡◌, ◌+◌, ◌≤◌, ◌==◌, ◌&&◌, if◌then◌else◌, map, filter, length};
 ghost use Rattle.std.specs.List.{enumerate_from};
-ghost use Rattle.tta_arch.specs.Effects.{has_result, KeptPort};
+ghost use Rattle.tta_arch.specs.Effects.{has_result};
 ghost use Rattle.tta_circuit.specs.Circuit as c;
 ghost use Rattle.tta_cost.specs.Chains.{bits_of, first_cost};
 ghost use Rattle.tta_cost.specs.Depths.{cost_of};

@@ -1,9 +1,8 @@
 //! The registers of a machine, as parts of its circuit.
 
-ghost use Rattle.std.specs.Prelude.{◌≡◌, ◌+◌, ◌-◌, ◌<◌, ◌≤◌, ◌++◌, true, if◌then◌else◌, List, [], ◌∷◌, map, length};
+ghost use Rattle.std.specs.Prelude.{◌≡◌, ◌+◌, ◌-◌, ◌<◌, ◌≤◌, true, if◌then◌else◌, [], ◌∷◌, map, length};
 ghost use Rattle.std.specs.List.{enumerate_from, flat_map, list_all, range_with_len};
-ghost use Rattle.tta_arch.specs.Effects.{KeptImm, KeptOperand, KeptPort, KeptRa, KeptReg};
-ghost use Rattle.tta_arch.specs.Fields.{numbers};
+ghost use Rattle.tta_arch.specs.Effects.{KeptOperand, KeptPort, KeptRa};
 ghost use Rattle.tta_arch.specs.Rules.{is_file, is_imm, is_unit};
 ghost use Rattle.tta_circuit.specs.Circuit as c;
 ghost use Rattle.tta_cost.specs.Depths.{cost_of};

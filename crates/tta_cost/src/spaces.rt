@@ -7,7 +7,7 @@ ghost use Rattle.tta_circuit.specs.Circuit as c;
 ghost use Rattle.tta_cost.specs.Depths.{cost_of};
 ghost use Rattle.tta_cost.specs.Offers.{word_of};
 ghost use Rattle.tta_offers.specs.Offers.{places_of};
-ghost use Rattle.tta_cost.specs.Tally.{cost_of_port, no_parts, parts_of, put, registers_put, wires_put};
+ghost use Rattle.tta_cost.specs.Tally.{cost_of_port, parts_of, put, registers_put, wires_put};
 ghost use Rattle.tta_cost.specs.declared.parts.Part.TheVariants as part;
 ghost use Rattle.tta_hardware.specs.Hardware as h;
 ghost use Rattle.tta_hardware.specs.Signals as s;

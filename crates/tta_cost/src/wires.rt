@@ -1,12 +1,11 @@
 //! The wires of a machine, as parts of its circuit.
 
-ghost use Rattle.std.specs.Prelude.{◌≡◌, ◌+◌, ◌<◌, ◌≤◌, ◌^◌, ◌++◌, true, List, [], ◌∷◌, map, length};
+ghost use Rattle.std.specs.Prelude.{◌≡◌, ◌+◌, ◌<◌, ◌≤◌, ◌^◌, true, [], ◌∷◌, map, length};
 ghost use Rattle.std.specs.List.{enumerate_from, flat_map, list_all, range_with_len};
 ghost use Rattle.tta_arch.specs.Fields.{numbers, template_width};
 ghost use Rattle.tta_arch.specs.Layout.{fields_of};
 ghost use Rattle.tta_arch.specs.Rules.{is_unit};
 ghost use Rattle.tta_circuit.specs.Circuit as c;
-ghost use Rattle.tta_cost.specs.Depths.{cost_of};
 ghost use Rattle.tta_cost.specs.Tally.{wires_put};
 ghost use Rattle.tta_hardware.specs.Hardware as h;
 ghost use Rattle.tta_hardware.specs.Signals as s;

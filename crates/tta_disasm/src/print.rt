@@ -1,6 +1,6 @@
 //! The canonical text of code with its data.
 
-ghost use Rattle.std.specs.Prelude.{◌≡◌, ◌++◌, codes, decimal, IfOk, OnOk};
+ghost use Rattle.std.specs.Prelude.{◌≡◌, ◌++◌, decimal, IfOk, OnOk};
 ghost use Rattle.std.specs.List.{flat_map};
 ghost use Rattle.tta_ops.specs.Set.{stated};
 ghost use Rattle.tta_disasm.specs.Canonical.{unit_name, place_text, guard_text, source_text};

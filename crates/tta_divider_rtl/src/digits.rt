@@ -1,6 +1,6 @@
 //! The wires of the digits of stages.
 
-ghost use Rattle.std.specs.Prelude.{◌≡◌, ◌≤◌, ◌+◌, ◌*◌, ◌++◌, codes, OnOk};
+ghost use Rattle.std.specs.Prelude.{◌≡◌, ◌≤◌, ◌+◌, ◌*◌, ◌++◌, OnOk};
 ghost use Rattle.std.specs.List.{flat_map};
 ghost use Rattle.tta_circuit.specs.Circuit.{Signal};
 ghost use Rattle.tta_verilog.specs.Expressions as e;

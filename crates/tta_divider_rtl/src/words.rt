@@ -1,6 +1,6 @@
 //! The words of the wires of a digit.
 
-ghost use Rattle.std.specs.Prelude.{◌≡◌, ◌≤◌, ◌+◌, ◌++◌, codes, OnOk};
+ghost use Rattle.std.specs.Prelude.{◌≡◌, ◌≤◌, ◌+◌, ◌++◌, OnOk};
 ghost use Rattle.tta_verilog.specs.Expressions as e;
 ghost use Rattle.tta_divider.specs.Divider as d;
 ghost use Rattle.tta_divider_rtl.specs.Texts as t;

@@ -1,5 +1,5 @@
 -- Which rows are delay slots: they are carried out before a jump, call or halt above them takes effect.
-use Rattle.std.specs.Prelude.{ℕ, ◌-◌, Bool, true, false, List, Option, slice_range}
+use Rattle.std.specs.Prelude.{ℕ, ◌-◌, Bool, true, false, List, slice_range}
 use Rattle.std.specs.Option.{option_map_or}
 use Rattle.std.specs.List.{list_any}
 use Rattle.tta_draw.specs.Cited.{Dest, Machine, Instruction}

@@ -1,6 +1,6 @@
 //! How wide the parts of a machine are in its picture.
 
-ghost use Rattle.std.specs.Prelude.{◌≡◌, ◌+◌, ◌*◌, ◌≤◌, length, All};
+ghost use Rattle.std.specs.Prelude.{◌≡◌, ◌+◌, ◌*◌, ◌≤◌, length};
 ghost use Rattle.tta_ops.specs.Set.{stated};
 ghost use Rattle.tta_draw.specs.MachineWidths.{port_width, port_width_if, part_width, file_width};
 ghost use Rattle.tta_draw.specs.MachineWidths.{imm_width, template_width, wider_ops, unit_width};

@@ -1,6 +1,6 @@
 //! The elements that a picture is made of, put at the end of its text.
 
-ghost use Rattle.std.specs.Prelude.{◌≡◌, ◌++◌, codes, decimal, OnOk};
+ghost use Rattle.std.specs.Prelude.{◌≡◌, ◌++◌, decimal, OnOk};
 ghost use Rattle.tta_draw.specs.Svg.{attribute, size_text, frame_text, box_text, centre_text};
 ghost use Rattle.tta_draw.specs.Svg.{circle_text, dot_text, pair_text, tip_text, measures_text};
 ghost use Rattle.tta_draw.specs.Svg.{spot_text, label_start, label_end, label_text, count_text};

@@ -1,7 +1,7 @@
 //! Where the jumps and calls of code lead, as far as its text shows it.
 
-ghost use Rattle.std.specs.Prelude.{◌≡◌, ◌≤◌, ◌==◌, ◌&&◌, ◌++◌, ℕ, Some, if◌then◌else◌, [], length};
-ghost use Rattle.std.specs.Prelude.{slice_get, option_and_then, IfOk, OnOk};
+ghost use Rattle.std.specs.Prelude.{◌≡◌, ◌≤◌, ◌==◌, ◌&&◌, ◌++◌, Some, [], length};
+ghost use Rattle.std.specs.Prelude.{IfOk, OnOk};
 ghost use Rattle.std.specs.Option.{option_map_or};
 ghost use Rattle.tta_arch.specs.Effects.{first_some};
 ghost use Rattle.tta_draw.specs.Targets.{leads, leading, source_word, target_of, arrow_to};

@@ -1,6 +1,6 @@
 //! What the picture of code writes into its cells.
 
-ghost use Rattle.std.specs.Prelude.{◌≡◌, ◌++◌, codes, decimal, OnOk};
+ghost use Rattle.std.specs.Prelude.{◌≡◌, ◌++◌, OnOk};
 ghost use Rattle.tta_ops.specs.Set.{stated};
 ghost use Rattle.tta_draw.specs.Written.{written_move, written_long};
 

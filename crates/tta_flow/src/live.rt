@@ -1,6 +1,6 @@
 //! Which variables are live at which steps.
 
-ghost use Rattle.std.specs.Prelude.{◌≡◌, ◌+◌, ◌<◌, ◌^◌, length, map, IfOk};
+ghost use Rattle.std.specs.Prelude.{◌≡◌, ◌+◌, ◌<◌, ◌^◌, map, IfOk};
 ghost use Rattle.tta_flow.specs.Growth.{Sets};
 ghost use Rattle.tta_flow.specs.Live.{IsLive, IsLiveProc, next_of};
 ghost use Rattle.tta_flow.specs.Live.{before_in, after_next, after_in, live_before, live_after};

@@ -1,6 +1,6 @@
 //! An order of the steps in which a step comes after those that can follow it.
 
-ghost use Rattle.std.specs.Prelude.{◌≡◌, ◌||◌, ◌&&◌, ◌==◌, not, ◌+◌, ◌<◌, ◌/◌, ◌^◌, ℕ, false};
+ghost use Rattle.std.specs.Prelude.{◌≡◌, ◌&&◌, not, ◌+◌, ◌<◌, ◌/◌};
 ghost use Rattle.std.specs.Prelude.{length, nat_lt, IfOk, IfSome, OnOk};
 ghost use Rattle.tta_flow.specs.Bits.{has};
 ghost use Rattle.tta_flow.specs.Order.{ArePlaces, IsNew, IsWalk, Comes, GoesOn};

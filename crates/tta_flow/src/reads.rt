@@ -1,6 +1,6 @@
 //! The variables that a step reads.
 
-ghost use Rattle.std.specs.Prelude.{◌≡◌, ◌||◌, ◌==◌, ◌<◌, ℕ};
+ghost use Rattle.std.specs.Prelude.{◌||◌};
 ghost use Rattle.std.specs.List.{list_any};
 ghost use Rattle.tta_flow.specs.Growth.{Sets};
 ghost use Rattle.tta_flow.specs.Steps.{is_var, reads};

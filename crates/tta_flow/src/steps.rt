@@ -1,7 +1,7 @@
 //! What a step reads and assigns, and what follows it.
 
 ghost use Rattle.std.specs.Prelude.{◌≡◌};
-ghost use Rattle.tta_flow.specs.Steps.{is_var, reads, assigned, assigns, target, falls_through, cuts};
+ghost use Rattle.tta_flow.specs.Steps.{reads, assigned, assigns, target, falls_through, cuts};
 
 use tta_program::{Src, Step};
 

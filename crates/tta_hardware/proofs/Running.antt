@@ -1,19 +1,18 @@
 -- Runs of the circuit are runs of its machine.
-use Rattle.std.proofs.Common.{◌≡◌, ℕ, zero, suc, ◌+◌, ◌%◌, ◌<◌, ◌≤◌, ◌^◌, Bool, true, false, not, ◌&&◌, ◌||◌, List, [], ◌∷◌, ◌++◌, length, map, Some, None, refl, sym, ap, ◌∙◌, subst, arith, append-nil}
-use Rattle.std.specs.Prelude.{if◌then◌else◌, nat_lt, replicate, drop, slice_get, slice_set}
+use Rattle.std.proofs.Common.{◌≡◌, ℕ, zero, suc, ◌+◌, ◌%◌, ◌<◌, ◌≤◌, ◌^◌, Bool, true, false, not, ◌&&◌, ◌||◌, List, [], ◌∷◌, ◌++◌, length, Some, None, refl, sym, ap, ◌∙◌, subst, arith, append-nil}
+use Rattle.std.specs.Prelude.{if◌then◌else◌, nat_lt, replicate, drop, slice_get}
 use Rattle.std.proofs.lemmas.Option.{none-some}
 use Rattle.std.proofs.lemmas.Bool.{or_left, or_right, false≢true, ltb-true, ltb-false}
-use Rattle.std.proofs.lemmas.List.{length-replicate, length-set, drop-drop}
+use Rattle.std.proofs.lemmas.List.{drop-drop}
 use Rattle.std.proofs.lemmas.Nat.{pow_pos}
-use Rattle.tta_hardware.specs.Cited.{Units, Machine, IsMachine, KeptPort, IsLegalCode, State, Outcome, Running, Halted, Waiting, Fault, next, bit, is_set, left, Circuit, powered}
+use Rattle.tta_hardware.specs.Cited.{Units, Machine, IsMachine, IsLegalCode, State, Outcome, Running, Halted, Waiting, Fault, next, bit, is_set, left, Circuit, powered}
 use Rattle.tta_code.specs.declared.code.Code.{Code as Program}
-use Rattle.tta_hardware.specs.Fields.{word_of}
-use Rattle.tta_hardware.specs.Signals.{Store, same_signal, same_store, Code, Data, Frame, Signal as Named, Pc, HasHalted, Underway, Goal, Ends, Keeps, IsDue, Due, HasBegun, Raw, IsInside, Asks, IsOffered, IsReady, IsReset, Whole, Gives, Goes, Puts, PutWord}
+use Rattle.tta_hardware.specs.Signals.{Store, same_signal, same_store, Code, Signal as Named, Pc, HasHalted, IsDue, Due, Asks, IsOffered, IsReady, IsReset, Whole, Gives, Goes, Puts, PutWord}
 use Rattle.tta_hardware.specs.Wires.{longest}
 use Rattle.tta_hardware.specs.Stands.{Hardware, fresh_in, StandsFor, IsSettled, is_halted}
 use Rattle.tta_hardware.specs.Theorem.{is_fault, is_waiting, IsFed, HasStepped}
 use Rattle.tta_hardware.specs.Hardware.{circuit_of}
-use Rattle.tta_hardware.specs.Runs.{held_after, signals_after, cycles_after, taken_after, put_after, hardware, AreClocksFrom, HasRunFrom, IsStill, CircuitRuns, StandsStill, start_over, cyc_over, HoldsWords, BeginsAnew}
+use Rattle.tta_hardware.specs.Runs.{held_after, signals_after, cycles_after, taken_after, put_after, AreClocksFrom, HasRunFrom, IsStill, CircuitRuns, StandsStill, start_over, cyc_over, HoldsWords, BeginsAnew}
 use Rattle.tta_hardware.proofs.Chained.{set_bit, going}
 use Rattle.tta_hardware.proofs.Fetching.{low, fetched_at}
 use Rattle.tta_hardware.proofs.Still.{still_stands}

@@ -4,7 +4,7 @@ use Rattle.std.specs.Prelude.{slice_index}
 use Rattle.std.specs.List.{AllByRecursion}
 use Rattle.std.proofs.lemmas.Nat.{pow_pos}
 use Rattle.std.proofs.lemmas.Bool.{false≢true}
-use Rattle.tta_hardware.specs.Cited.{Machine, word_width, Instruction, is_legal, IsLegalCode, is_input, powered, TellsApart, IsWithin}
+use Rattle.tta_hardware.specs.Cited.{Machine, word_width, Instruction, is_legal, IsLegalCode, is_input, powered, TellsApart}
 use Rattle.tta_code.specs.declared.code.Code.{Code as Program}
 use Rattle.tta_circuit.proofs.Within.{stays_within}
 use Rattle.tta_hardware.specs.Signals.{Store, Code, Data, Frame, Signal as Named, IsOffered, Offer, IsReady, IsReset, same_store, same_signal}

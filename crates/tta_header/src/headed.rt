@@ -1,10 +1,9 @@
 //! The text of a circuit below what it is made of.
 
-ghost use Rattle.std.specs.Prelude.{◌≡◌, ◌++◌, [], true, length, IfOk, OnOk};
+ghost use Rattle.std.specs.Prelude.{◌≡◌, ◌++◌, [], true, IfOk, OnOk};
 ghost use Rattle.tta_arch.specs.Fields.{word_width};
 ghost use Rattle.tta_code.specs.Legal.{IsLegalCode};
 ghost use Rattle.tta_code.specs.Whole.{fits};
-ghost use Rattle.tta_image.specs.Image.{Image};
 ghost use Rattle.tta_ops.specs.Set.{stated};
 ghost use Rattle.tta_rtl.specs.Module as p;
 ghost use Rattle.tta_rtl.specs.declared.rom.Rom.TheVariants as rom;

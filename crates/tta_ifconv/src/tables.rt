@@ -1,7 +1,6 @@
 //! What is written down of the steps of a procedure before they are converted.
 
 ghost use Rattle.std.specs.Prelude.{◌≡◌, ◌+◌, ◌<◌, ◌^◌, suc, length, if◌then◌else◌, IfOk};
-ghost use Rattle.tta_ifconv.specs.Triangles.{place};
 ghost use Rattle.tta_ifconv.specs.Tables.{with_mark, AreTargets, ArePlaces};
 
 use crate::triangles::{is_dropped, target};

@@ -3,7 +3,7 @@
 ghost use Rattle.std.specs.Prelude.{◌≡◌, ◌+◌, ◌≤◌, ◌<◌, ◌%◌, ◌^◌, true, ◌++◌, IfOk, OnOk};
 ghost use Rattle.std.specs.List.{position, position_or_len};
 ghost use Rattle.tta_arch.specs.Joins.{is_same_guard};
-ghost use Rattle.tta_arch.specs.Fields.{same_source, same_dest};
+ghost use Rattle.tta_arch.specs.Fields.{same_source};
 ghost use Rattle.tta_image.specs.Ranks.{IsInOrder};
 ghost use Rattle.tta_image.specs.Fields.{guard_number, dest_number, source_field, slot_field};
 ghost use Rattle.tta_image.specs.Fields.{bus_field, left_after};

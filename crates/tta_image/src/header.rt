@@ -1,6 +1,6 @@
 //! The header of an image.
 
-ghost use Rattle.std.specs.Prelude.{◌≡◌, ◌+◌, ◌*◌, ◌<◌, ◌≤◌, ◌^◌, length, IsTrue, IfOk};
+ghost use Rattle.std.specs.Prelude.{◌≡◌, ◌+◌, ◌*◌, ◌<◌, ◌≤◌, ◌^◌, length, IsTrue};
 ghost use Rattle.tta_arch.specs.Fields.{word_width};
 ghost use Rattle.tta_image.specs.Reading.{stands_at, has_data, is_version, data_told, bytes_for};
 ghost use Rattle.tta_image.specs.Reading.{word_count, section_length, has_length};

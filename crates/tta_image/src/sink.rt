@@ -21,7 +21,7 @@ pub struct BitSink {
 }
 
 impl Model for BitSink {
-    ghost use Rattle.std.specs.Prelude.{List, Bool, ℕ, ◌++◌, ◌<◌, ◌^◌};
+    ghost use Rattle.std.specs.Prelude.{List, Bool, ◌++◌, ◌<◌, ◌^◌};
     ghost use Rattle.std.specs.List.{flat_map, AllByRecursion};
     ghost use Rattle.tta_image.specs.Bits.{bits_of};
 

@@ -1,7 +1,7 @@
 //! The fields of a slot, read bus by bus.
 
 ghost use Rattle.std.specs.Prelude.{◌≡◌, ◌+◌, ◌*◌, ◌/◌, ◌%◌, ◌<◌, ◌≤◌, ◌^◌, Bool, List, length};
-ghost use Rattle.std.specs.Prelude.{drop, slice_get};
+ghost use Rattle.std.specs.Prelude.{drop};
 ghost use Rattle.tta_image.specs.Decoding.{bits_in, field, slot_numbers, decoded_guard, short_word};
 ghost use Rattle.tta_image.specs.Decoding.{decoded_source, decoded_dest, decoded_move};
 ghost use Rattle.tta_image.specs.Decoding.{decoded_slot};

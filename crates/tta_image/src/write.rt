@@ -1,10 +1,9 @@
 //! The writer of images.
 
-ghost use Rattle.std.specs.Prelude.{◌≡◌, ◌<◌, ◌^◌, if◌then◌else◌, ◌++◌, [], length, codes, All};
+ghost use Rattle.std.specs.Prelude.{◌≡◌, ◌<◌, ◌^◌, ◌++◌, [], length, codes, All};
 ghost use Rattle.std.specs.Prelude.{IfOk, OnOk, true};
 ghost use Rattle.std.specs.Int.{w32, to_be_bytes};
-ghost use Rattle.std.specs.List.{flat_map, sum_by};
-ghost use Rattle.tta_arch.specs.Joins.{has_bit};
+ghost use Rattle.std.specs.List.{flat_map};
 ghost use Rattle.tta_arch.specs.Fields.{taken_width, word_width};
 ghost use Rattle.tta_arch.specs.Layout.{layout_of};
 ghost use Rattle.tta_code.specs.Legal.{IsLegalCode};

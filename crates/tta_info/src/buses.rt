@@ -1,6 +1,6 @@
 //! What is told of each bus.
 
-ghost use Rattle.std.specs.Prelude.{◌≡◌, ◌+◌, ◌≤◌, ◌^◌, ◌++◌, true, slice_get, IfSome, OnOk};
+ghost use Rattle.std.specs.Prelude.{◌≡◌, ◌+◌, ◌≤◌, ◌++◌, true, slice_get, IfSome, OnOk};
 ghost use Rattle.std.specs.Option.{option_copied};
 ghost use Rattle.tta_arch.specs.Rules.{is_bus};
 ghost use Rattle.tta_info.specs.Buses.{fields_text, range_text, words_text, bus_text, bus_at_text};

@@ -1,6 +1,6 @@
 //! The command `stages`: what a program becomes on the way to code for a machine.
 
-ghost use Rattle.std.specs.Prelude.{◌≡◌, None, IfOk};
+ghost use Rattle.std.specs.Prelude.{◌≡◌, IfOk};
 ghost use Rattle.tta_ops.specs.Set.{stated};
 ghost use Rattle.tta_arch.specs.Over as machines;
 ghost use Rattle.tta_program.specs.Over as programs;

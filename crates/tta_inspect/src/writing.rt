@@ -1,7 +1,7 @@
 //! The command `rtl`: the circuit of a machine with the code of an image, or with the code that is built
 //! of a program.
 
-ghost use Rattle.std.specs.Prelude.{◌≡◌, None, true, IfOk};
+ghost use Rattle.std.specs.Prelude.{◌≡◌, None, IfOk};
 ghost use Rattle.tta_ops.specs.Set.{stated};
 ghost use Rattle.tta_arch.specs.Over as machines;
 ghost use Rattle.tta_program.specs.Over as programs;

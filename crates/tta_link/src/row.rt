@@ -1,9 +1,8 @@
 //! Blocks in a row.
 
-ghost use Rattle.std.specs.Prelude.{◌≡◌, ℕ, ◌+◌, ◌<◌, ◌≤◌, ◌^◌, ◌++◌, true, length, replicate};
+ghost use Rattle.std.specs.Prelude.{◌≡◌, ◌+◌, ◌<◌, ◌≤◌, ◌++◌, true, length, replicate};
 ghost use Rattle.std.specs.Prelude.{None, IfOk, OnOk, IfErr};
 ghost use Rattle.std.specs.List.{list_all};
-ghost use Rattle.tta_arch.specs.Rules.{IsMachine};
 ghost use Rattle.tta_code.specs.Legal.{IsLegalCode};
 ghost use Rattle.tta_link.specs.Linked.{starts_from, block_words, IsLinked};
 ghost use Rattle.tta_link.specs.declared.row.LinkError.TheVariants.{NoMemory};

@@ -1,7 +1,7 @@
 -- A clause of stages says of each status what its row does, of the commands that make a file of a machine and what is for it, and of those
 -- that put a text of it.
 use Rattle.std.proofs.Common.{◌↔◌, ℕ, List, inl, inr}
-use Rattle.tta_load.specs.Cited.{World, IsUntouched, Output, NothingOutput, Units}
+use Rattle.tta_load.specs.Cited.{World, Output, Units}
 use Rattle.tta_load.specs.declared.machine.MachineFile.{MachineFile}
 use Rattle.tta_load.specs.declared.status.Status.{Status}
 use Rattle.tta_load.specs.declared.status.Status.TheVariants as status

@@ -1,6 +1,5 @@
 //! Code with data, as an image.
 
-ghost use Rattle.std.specs.Prelude.{◌≡◌, IfOk};
 ghost use Rattle.tta_code.specs.Legal.{IsLegalWhole};
 ghost use Rattle.tta_image.specs.Image.{Image};
 ghost use Rattle.tta_load.specs.Held.{TakesBytes, FileEnds, MadeEnds, no_memory};

@@ -1,6 +1,6 @@
 //! How blocks end.
 
-ghost use Rattle.std.specs.Prelude.{◌≡◌, ◌<◌, ◌≤◌, ◌+◌, ℕ, true, length, slice_index};
+ghost use Rattle.std.specs.Prelude.{◌≡◌, ◌<◌, true, length, slice_index};
 ghost use Rattle.tta_program.specs.declared.step.Step.{Step};
 ghost use Rattle.tta_lower.specs.Tables.{fits, number_in};
 ghost use Rattle.tta_lower.specs.Plan.{homes_in};

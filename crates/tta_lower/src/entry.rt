@@ -1,6 +1,6 @@
 //! What the entry of a procedure sets.
 
-ghost use Rattle.std.specs.Prelude.{◌≡◌, ◌<◌, ◌≤◌, ◌+◌, ◌++◌, ℕ, Bool, length, OnOk, [], if◌then◌else◌};
+ghost use Rattle.std.specs.Prelude.{◌≡◌, ◌<◌, ◌+◌, ◌++◌, length, OnOk, [], if◌then◌else◌};
 ghost use Rattle.tta_lower.specs.LoweringInput.{first_by};
 ghost use Rattle.tta_lower.specs.Plan.{homes_in};
 ghost use Rattle.tta_lower.specs.Layout.{vars_of, params_of, sets, sets_from};

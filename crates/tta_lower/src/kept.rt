@@ -1,6 +1,6 @@
 //! The home registers that keep their words after a block.
 
-ghost use Rattle.std.specs.Prelude.{◌≡◌, ◌<◌, ◌==◌, ◌||◌, ◌&&◌, ◌++◌, ◌∷◌, ◌^◌, [], ℕ, not, nat_lt, false, length, filter, replicate, IfOk, OnOk, if◌then◌else◌};
+ghost use Rattle.std.specs.Prelude.{◌≡◌, ◌<◌, ◌||◌, ◌&&◌, ◌++◌, ◌∷◌, ◌^◌, [], ℕ, not, nat_lt, false, length, filter, replicate, IfOk, OnOk, if◌then◌else◌};
 ghost use Rattle.tta_alloc.specs.Homes.{count_of};
 ghost use Rattle.tta_lower.specs.Plan.{homes_in, live_in};
 ghost use Rattle.tta_lower.specs.Tables.{marked};

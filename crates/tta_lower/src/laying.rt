@@ -1,6 +1,6 @@
 //! Where the frames of a program lie in the frame space.
 
-ghost use Rattle.std.specs.Prelude.{◌≡◌, ◌<◌, ◌≤◌, ◌+◌, ◌^◌, ◌++◌, ◌∷◌, [], ℕ, IfOk, IfErr, OnOk};
+ghost use Rattle.std.specs.Prelude.{◌≡◌, ◌<◌, ◌≤◌, ◌+◌, ◌^◌, ◌++◌, ◌∷◌, [], IfOk, IfErr, OnOk};
 ghost use Rattle.tta_lower.specs.Tables.{AreFirsts};
 ghost use Rattle.tta_lower.specs.Layout.{own};
 ghost use Rattle.tta_program.specs.Rules.{IsProgram};

@@ -1,6 +1,6 @@
 //! The numbers of blocks.
 
-ghost use Rattle.std.specs.Prelude.{◌≡◌, ◌<◌, ◌≤◌, ◌==◌, ◌^◌, ℕ, Some, length, slice_get, slice_index, slice_set, IfOk, if◌then◌else◌};
+ghost use Rattle.std.specs.Prelude.{◌≡◌, ◌<◌, ◌==◌, ◌^◌, ℕ, Some, length, slice_index, slice_set, IfOk, if◌then◌else◌};
 ghost use Rattle.tta_lower.specs.Tables.{StandOnce, HasNumbers, HasRoom, IsWritten, row_of, number_in};
 
 use crate::part::Part;

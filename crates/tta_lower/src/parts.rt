@@ -1,8 +1,7 @@
 //! The parts of a program in the order of their code.
 
-ghost use Rattle.std.specs.Prelude.{◌≡◌, ◌<◌, ◌==◌, ◌≤◌, ◌^◌, ◌++◌, ℕ, Bool, Some, length, slice_get, OnOk, IfOk, if◌then◌else◌, []};
+ghost use Rattle.std.specs.Prelude.{◌≡◌, ◌<◌, ◌==◌, ◌++◌, Some, length, OnOk, IfOk, if◌then◌else◌, []};
 ghost use Rattle.std.specs.List.{flat_map, list_any};
-ghost use Rattle.tta_program.specs.declared.program.Proc.{Proc};
 ghost use Rattle.tta_program.specs.declared.step.Step.{Step};
 ghost use Rattle.tta_program.specs.Rules.{IsProgram};
 ghost use Rattle.tta_flow.specs.Blocks.{IsFlow};
@@ -10,7 +9,7 @@ ghost use Rattle.tta_lower.specs.Liveness.{Block as BlockType, Has};
 ghost use Rattle.tta_lower.specs.Laid.{IsSpan};
 ghost use Rattle.tta_lower.specs.LoweringInput.{first_by};
 ghost use Rattle.tta_lower.specs.Layout.{vars_of};
-ghost use Rattle.tta_lower.specs.Lower.{numbers, return_after, span_parts, entry_parts, parts, spans_of};
+ghost use Rattle.tta_lower.specs.Lower.{numbers, return_after, span_parts, entry_parts, parts};
 ghost use Rattle.tta_lower.specs.Tables.{Added, IsSplit};
 
 use crate::part::Part;

@@ -1,6 +1,6 @@
 //! Where the variables of a program are kept, and which are live.
 
-ghost use Rattle.std.specs.Prelude.{◌≡◌, ◌≢◌, ◌<◌, ◌+◌, ℕ, true, length};
+ghost use Rattle.std.specs.Prelude.{◌≡◌, ◌≢◌, ◌<◌, ◌+◌, true, length};
 ghost use Rattle.tta_program.specs.Rules.{is_src};
 ghost use Rattle.tta_lower.specs.LoweringInput.{home_by, first_by, after_by};
 ghost use Rattle.tta_lower.specs.Tables.{AreFirsts};

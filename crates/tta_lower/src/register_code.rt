@@ -1,6 +1,6 @@
 //! The register code of a program.
 
-ghost use Rattle.std.specs.Prelude.{◌≡◌, length, IfOk, IfErr};
+ghost use Rattle.std.specs.Prelude.{◌≡◌, IfOk, IfErr};
 ghost use Rattle.tta_program.specs.Rules.{IsProgram};
 ghost use Rattle.tta_flow.specs.Blocks.{IsFlow};
 ghost use Rattle.tta_flow.specs.Live.{IsLive};

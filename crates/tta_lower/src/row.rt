@@ -1,15 +1,15 @@
 //! What steps become.
 
-ghost use Rattle.std.specs.Prelude.{◌≡◌, ◌<◌, ◌≤◌, ◌+◌, ◌-◌, ◌^◌, ◌++◌, ℕ, Bool, true, false, Some, length, slice_get, OnOk, MatchOption, [], ◌∷◌};
+ghost use Rattle.std.specs.Prelude.{◌≡◌, ◌<◌, ◌≤◌, ◌+◌, ◌-◌, ◌++◌, ℕ, true, false, Some, length, slice_get, OnOk, MatchOption, [], ◌∷◌};
 ghost use Rattle.std.specs.List.{list_all};
 ghost use Rattle.tta_program.specs.declared.program.Proc.{Proc};
 ghost use Rattle.tta_program.specs.declared.step.Step.{Step};
-ghost use Rattle.tta_program.specs.Rules.{is_src, is_step};
+ghost use Rattle.tta_program.specs.Rules.{is_src};
 ghost use Rattle.tta_program.specs.Sequential.{step_at};
 ghost use Rattle.tta_lower.specs.Liveness.{is_plain};
 ghost use Rattle.tta_lower.specs.Tables.{uses_below, fits};
 ghost use Rattle.tta_lower.specs.Plan.{homes_in};
-ghost use Rattle.tta_lower.specs.Layout.{vars_of, place, source, passes, gives, steps_for, code_from};
+ghost use Rattle.tta_lower.specs.Layout.{vars_of, passes, gives, steps_for, code_from};
 
 use crate::plan::{Plan, place_of, slot_of, source_of, value_slot};
 use std::alloc::AllocError;

@@ -1,6 +1,6 @@
 //! Sets of buses, as the names of a line give them.
 
-ghost use Rattle.std.specs.Prelude.{◌≡◌, ℕ, ◌<◌, ◌^◌, List, ◌++◌, ◌∷◌, []};
+ghost use Rattle.std.specs.Prelude.{◌≡◌, ℕ, ◌<◌, List, ◌++◌, ◌∷◌, []};
 ghost use Rattle.std.specs.Prelude.{IfSome, option_map};
 ghost use Rattle.tta_parse.specs.Lines.{texts};
 ghost use Rattle.tta_machine.specs.BusSets.{set_once};

@@ -1,6 +1,6 @@
 //! The declarations of buses and sockets.
 
-ghost use Rattle.std.specs.Prelude.{◌≡◌, map};
+ghost use Rattle.std.specs.Prelude.{map};
 ghost use Rattle.tta_parse.specs.Lines.{plain};
 ghost use Rattle.tta_parse.specs.Taken.{Takes};
 ghost use Rattle.tta_machine.specs.Forms.{bus_form, socket_form};

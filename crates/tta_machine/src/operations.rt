@@ -2,7 +2,6 @@
 
 ghost use Rattle.std.specs.Prelude.{◌≡◌, ◌==◌, ◌<◌, ◌&&◌, ◌||◌, map, true, false, not, is_none};
 ghost use Rattle.std.specs.Prelude.{length, nat_le, slice_get, slice_set, Some, Err, IfSome, OnOk};
-ghost use Rattle.std.specs.Prelude.{OnErr};
 ghost use Rattle.std.specs.List.{list_any};
 ghost use Rattle.std.specs.Option.{option_map_or};
 ghost use Rattle.tta_parse.specs.Lines.{plain};

@@ -1,6 +1,6 @@
 //! The declaration of a unit.
 
-ghost use Rattle.std.specs.Prelude.{◌≡◌, map};
+ghost use Rattle.std.specs.Prelude.{map};
 ghost use Rattle.tta_parse.specs.Lines.{plain};
 ghost use Rattle.tta_parse.specs.Taken.{Takes};
 ghost use Rattle.tta_machine.specs.Forms.{unit_form};

@@ -1,7 +1,6 @@
 -- What is counted of a small circuit.
-use Rattle.std.specs.Prelude.{◌≡◌, ℕ, List, [], ◌∷◌, refl}
+use Rattle.std.specs.Prelude.{◌≡◌, ℕ, refl}
 use Rattle.tta_circuit.specs.Circuit.{Expr, Const, Signal, Select, Equal, Plus, Register}
-use Rattle.tta_measure.specs.declared.cost.Cost.{Cost}
 use Rattle.tta_measure.specs.Cost.{at, beside, behind, chosen, held, plus}
 use Rattle.tta_measure.specs.Measure.{cost, register_cost}
 

@@ -1,5 +1,5 @@
 -- What circuits are made of, counted, and how deep their signals are.
-use Rattle.std.specs.Prelude.{◌≡◌, ℕ, ◌*◌, length, List, Option, None, Some}
+use Rattle.std.specs.Prelude.{◌≡◌, ℕ, ◌*◌, length}
 use Rattle.std.specs.List.{AllByRecursion}
 use Rattle.tta_circuit.specs.Circuit.{Expr, Const, Signal, Slice, Join, Select, Not, Both, Either, Equal, Below, Plus, Minus, Times, BitAnd, BitOr, BitXor, Left, Right, Read, Apply, WritePort, Register, Memory, Circuit}
 use Rattle.tta_circuit.specs.Widths.{width_of}

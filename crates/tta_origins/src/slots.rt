@@ -1,6 +1,6 @@
 //! The slots of the frame space.
 
-ghost use Rattle.std.specs.Prelude.{◌≡◌, ◌≤◌, ◌<◌, ◌*◌, ◌^◌};
+ghost use Rattle.std.specs.Prelude.{◌≡◌, ◌≤◌, ◌<◌, ◌^◌};
 ghost use Rattle.tta_lower.specs.Layout.{base, own, var_slot};
 
 use tta_program::Program;

@@ -2,7 +2,7 @@
 
 ghost use Rattle.std.specs.Prelude.{◌≡◌, ◌<◌, ◌++◌, OnOk};
 ghost use Rattle.tta_lower.specs.LoweringInput.{home_by, reg_of};
-ghost use Rattle.tta_lower.specs.Layout.{place, place_by, vars_of};
+ghost use Rattle.tta_lower.specs.Layout.{place_by, vars_of};
 ghost use Rattle.tta_lower.specs.Lower.{owner_of};
 ghost use Rattle.tta_stages.specs.Words.{kept_text};
 ghost use Rattle.tta_origins.specs.Origins.{lives_in, live_text, lives_text, variable_text};

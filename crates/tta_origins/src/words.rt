@@ -1,6 +1,6 @@
 //! Numbers and places, put at the end of a text.
 
-ghost use Rattle.std.specs.Prelude.{◌≡◌, ◌++◌, decimal, OnOk};
+ghost use Rattle.std.specs.Prelude.{◌≡◌, ◌++◌, OnOk};
 ghost use Rattle.tta_stages.specs.Words.{count_text, home_text, pair_text};
 
 use itoa::Buffer;

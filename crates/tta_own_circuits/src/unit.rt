@@ -1,6 +1,6 @@
 //! What a unit is that hands in circuits.
 
-ghost use Rattle.std.specs.Prelude.{◌≡◌, ◌<◌, ℕ, Option, IfSome};
+ghost use Rattle.std.specs.Prelude.{◌<◌, ℕ, Option, IfSome};
 ghost use Rattle.tta_own_circuits.specs.Texts.{AreAlike};
 
 use tta_ops::OpUnit;

@@ -1,6 +1,6 @@
 //! The control move under way, followed beside a run, which does not show it.
 
-ghost use Rattle.std.specs.Prelude.{◌≡◌, ◌+◌, ◌<◌, ◌^◌, ◌↔◌, Bool, None, Some, is_some, option_map};
+ghost use Rattle.std.specs.Prelude.{◌≡◌, ◌+◌, ◌<◌, ◌^◌, None, Some, is_some, option_map};
 ghost use Rattle.std.specs.Prelude.{length, true, IsTrue};
 ghost use Rattle.std.specs.List.{AllByRecursion};
 ghost use Rattle.tta_arch.specs.Effects.{first_some, is_active, moved};

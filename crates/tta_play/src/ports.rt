@@ -1,6 +1,6 @@
 //! The ports of a machine, each with the buses that it joins.
 
-ghost use Rattle.std.specs.Prelude.{◌≡◌, ◌++◌, option_map, slice_get, OnOk};
+ghost use Rattle.std.specs.Prelude.{◌≡◌, ◌++◌, OnOk};
 ghost use Rattle.std.specs.List.{flat_map};
 ghost use Rattle.tta_play.specs.Ports.{buses_of, control_ports, file_ports, imm_port, port_text};
 ghost use Rattle.tta_play.specs.Ports.{ports_text, some_port_text, unit_ports};

@@ -131,7 +131,6 @@ impl MemFiles {
 }
 
 impl Files for MemFiles {
-    ghost use Rattle.tta_ports.specs.Store.{Store};
     ghost use Rattle.tta_ports.specs.Faults.{CountsFault, TellsFault};
     ghost use Rattle.tta_ports.specs.Files.{Holds, HoldsMore, IfTooLong, WritesFile, read_failed};
     ghost use Rattle.tta_ports.specs.Files.{write_failed};

@@ -1,6 +1,6 @@
 //! The loops that move bytes between memory and the host.
 
-ghost use Rattle.std.specs.Prelude.{◌≡◌, ℕ, take, OnOk, OnErr};
+ghost use Rattle.std.specs.Prelude.{ℕ, take, OnOk, OnErr};
 ghost use Rattle.std.specs.Io.KnownBytes.{Appends};
 ghost use Rattle.tta_ports.specs.Transfer.{ReadsUpTo};
 

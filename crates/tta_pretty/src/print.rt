@@ -5,7 +5,7 @@ ghost use Rattle.std.specs.List.{flat_map, list_all, AllByRecursion};
 ghost use Rattle.tta_ops.specs.Set.{stated};
 ghost use Rattle.tta_program.specs.Over.{is_over, StandsOver};
 ghost use Rattle.tta_ifconv.specs.Tables.{AreTargets};
-ghost use Rattle.tta_pretty.specs.Printed.{Words, Label, label_name, line_text, data_line, data_lines, proc_line, proc_lines, step_line, step_lines, printed};
+ghost use Rattle.tta_pretty.specs.Printed.{Words, Label, label_name, line_text, data_line, data_lines, proc_line, proc_lines, step_lines, printed};
 ghost use Rattle.tta_pretty.specs.Printing.{proc_text};
 
 use crate::steps::push_step;

@@ -3,7 +3,7 @@
 ghost use Rattle.std.specs.Prelude.{◌≡◌, ◌++◌, ◌∷◌, [], ◌<◌, true, codes, length, OnOk};
 ghost use Rattle.tta_ops.specs.Set.{stated};
 ghost use Rattle.tta_program.specs.Over.{is_over};
-ghost use Rattle.tta_pretty.specs.Printed.{Words, Label, line_text, step_line, word, equals, var_name, label_name, proc_name, src_word, src_words, rel_name, op_name, operand_words};
+ghost use Rattle.tta_pretty.specs.Printed.{Words, line_text, step_line, word, equals, var_name, label_name, proc_name, src_word, src_words, rel_name, op_name, operand_words};
 ghost use Rattle.std.specs.Prelude.{get_or};
 ghost use Rattle.tta_pretty.specs.Printing.{spaced_after};
 

@@ -1,6 +1,6 @@
 //! The words of a printed line.
 
-ghost use Rattle.std.specs.Prelude.{◌≡◌, ◌++◌, ◌<◌, ◌^◌, codes, decimal, length, OnOk};
+ghost use Rattle.std.specs.Prelude.{◌≡◌, ◌++◌, ◌<◌, codes, decimal, OnOk};
 ghost use Rattle.tta_pretty.specs.Printed.{var_name, label_name, proc_name, src_word, src_words, rel_name, var_names, words};
 ghost use Rattle.tta_pretty.specs.Printing.{spaced_after};
 

@@ -1,6 +1,6 @@
 //! The session, line by line.
 
-ghost use Rattle.std.specs.Prelude.{◌≡◌, ◌<◌, ◌^◌};
+ghost use Rattle.std.specs.Prelude.{◌<◌, ◌^◌};
 ghost use Rattle.tta_ops.specs.Set.{stated};
 ghost use Rattle.tta_sim.specs.Held.{IsRunOf};
 ghost use Rattle.tta_debug.specs.Debugged.{Debugged};

@@ -5,7 +5,7 @@ ghost use Rattle.std.specs.Option.{option_copied};
 ghost use Rattle.tta_ops.specs.Set.{stated};
 ghost use Rattle.tta_code.specs.Cycle.{State};
 ghost use Rattle.tta_disasm.specs.Canonical.{instruction_text};
-ghost use Rattle.tta_sim.specs.Held.{Stands, IsRunOf};
+ghost use Rattle.tta_sim.specs.Held.{Stands};
 ghost use Rattle.tta_prompt.specs.Texts.{files_lines, help, own_text, word_line};
 
 use crate::help::push_help;

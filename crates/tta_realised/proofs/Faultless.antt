@@ -1,8 +1,8 @@
 -- Code that agrees with a program meets no fault in a circuit that would tell it.
-use Rattle.std.proofs.Common.{◌≡◌, ℕ, suc, ◌+◌, ◌*◌, ◌<◌, Bool, true, false, List, length, refl, sym, ap, ◌∙◌, subst}
+use Rattle.std.proofs.Common.{◌≡◌, ℕ, suc, ◌+◌, ◌*◌, ◌<◌, Bool, true, false, List, length, refl, sym, ◌∙◌, subst}
 use Rattle.std.specs.Prelude.{replicate}
 use Rattle.std.proofs.lemmas.List.{length-replicate}
-use Rattle.tta_realised.specs.Cited.{IsPrefixOf, over, Units, Machine, IsMachine, Program, step_count, Whole, data_in, IsLegalWhole, State, IsGiven, AgreesAt, program_at, code_at, is_set, code_words, FaultNow, Watches, AreClocks, signals_at, cycles_at, put_at}
+use Rattle.tta_realised.specs.Cited.{IsPrefixOf, over, Units, Machine, IsMachine, Program, step_count, Whole, data_in, IsLegalWhole, IsGiven, AgreesAt, program_at, code_at, is_set, code_words, FaultNow, Watches, AreClocks, signals_at, cycles_at}
 use Rattle.tta_list.proofs.Sets.{over-length}
 use Rattle.tta_circuit.specs.Meaning.{powered}
 use Rattle.tta_hardware.specs.Signals.{Signal as Named, same_signal, same_store}
@@ -10,7 +10,7 @@ use Rattle.tta_hardware.specs.Stands.{Hardware}
 use Rattle.tta_hardware.specs.Runs.{HoldsWords}
 use Rattle.tta_hardware.proofs.Imaged.{image_kept}
 use Rattle.tta_trap.specs.Trap.{trap_circuit}
-use Rattle.tta_trap.specs.Theorem.{HasTrapped, IsClocked}
+use Rattle.tta_trap.specs.Theorem.{HasTrapped}
 use Rattle.tta_trap.proofs.Onward.{knows_on}
 use Rattle.tta_trap.proofs.Stopped.{trap_runs}
 use Rattle.tta_trap.proofs.Telling.{tells_faults}

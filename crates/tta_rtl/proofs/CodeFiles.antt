@@ -1,5 +1,5 @@
 -- The words of code to the base 16.
-use Rattle.std.proofs.Common.{◌≡◌, ℕ, zero, suc, ◌+◌, ◌-◌, ◌*◌, ◌/◌, ◌%◌, ◌^◌, ◌<◌, ◌≤◌, mul_assoc, Bool, true, false, List, [], ◌∷◌, ◌++◌, length, map, take, drop, get_or, replicate, refl, sym, ap, append_assoc, ◌∙◌, arith}
+use Rattle.std.proofs.Common.{◌≡◌, ℕ, zero, suc, ◌+◌, ◌-◌, ◌*◌, ◌/◌, ◌%◌, ◌^◌, ◌<◌, ◌≤◌, mul_assoc, Bool, false, List, ◌∷◌, ◌++◌, length, map, take, drop, get_or, replicate, refl, sym, ap, append_assoc, ◌∙◌, arith}
 use Rattle.std.specs.List.{flat_map}
 use Rattle.std.proofs.Math.Nat.{zero-div, add-mul-div_right, add-mul-mod_self_right}
 use Rattle.std.proofs.Math.Seq.{take-add}
@@ -11,7 +11,7 @@ use Rattle.tta_rtl.specs.Cited.{Machine, Code, numbers, word_width, code_words, 
 use Rattle.tta_image.specs.Sink.{bit_value}
 use Rattle.tta_image.proofs.Numbers.{number_of-append, number_of-below}
 use Rattle.tta_image.proofs.Unique.{length-bytes}
-use Rattle.tta_rtl.specs.CodeFile.{hex_digit, hex_line, hex_text}
+use Rattle.tta_rtl.specs.CodeFile.{hex_digit, hex_text}
 use Rattle.tta_rtl.specs.Memories.{AreCodeBytes, bit_in}
 use Rattle.tta_rtl.proofs.Digits.{bit_is, bits_from}
 

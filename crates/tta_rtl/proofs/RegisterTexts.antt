@@ -1,6 +1,6 @@
 -- The lines of registers.
-use Rattle.std.proofs.Common.{◌≡◌, ◌+◌, ◌++◌, ◌∷◌, [], List, ℕ, Bool, true, false, map, length, refl, sym, ap, ◌∙◌, append_assoc}
-use Rattle.std.specs.Prelude.{◌==◌, ◌&&◌, codes}
+use Rattle.std.proofs.Common.{◌≡◌, ◌+◌, ◌++◌, ◌∷◌, [], List, ℕ, Bool, true, false, map, length, refl, ap, ◌∙◌, append_assoc}
+use Rattle.std.specs.Prelude.{◌==◌, ◌&&◌}
 use Rattle.std.specs.List.{flat_map, enumerate_from, range_with_len}
 use Rattle.std.proofs.lemmas.List.{map-append}
 use Rattle.std.proofs.lemmas.List.Folds.{flat_map-map}
@@ -8,7 +8,7 @@ use Rattle.std.proofs.lemmas.Grind.{flat_map-append}
 use Rattle.tta_arch.specs.declared.ends.Dest.TheVariants as dest
 use Rattle.tta_rtl.specs.Cited.{Template, KeptReg, KeptImm, width_of, numbers, template_width, is_dest_on, Machine, Signal, Const, Equal, Word, Keeps, Underway, Fetched, TemplateOf, LongOf, Expression, hits, buses_to, register, register_width, restarts, becomes, kept_next, narrowed, longs, between, register_text, names_of, signal_name, text_of}
 use Rattle.tta_hardware.specs.Signals.{Signal as Named}
-use Rattle.tta_rtl.specs.Texts.{choice_start, register_start, register_rest, register_line, registers_text}
+use Rattle.tta_rtl.specs.Texts.{register_start, register_rest, register_line, registers_text}
 use Rattle.tta_rtl.specs.Kept.{brought, file_line, imm_line, line_of, long_choice, registers_of_file, registers_of_imm, template_choice, underway_line, underway_name, underways}
 use Rattle.tta_rtl.proofs.Choices.{choices_passed, text_first}
 

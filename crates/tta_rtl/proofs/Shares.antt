@@ -1,12 +1,12 @@
 -- The parts of the instruction's word that a layout tells are those of its machine.
-use Rattle.std.proofs.Common.{◌≡◌, ℕ, zero, suc, ◌+◌, ◌-◌, Bool, true, false, List, [], ◌∷◌, map, length, sym, ap, refl, ◌∙◌, arith}
+use Rattle.std.proofs.Common.{◌≡◌, ℕ, zero, suc, ◌+◌, ◌-◌, Bool, true, false, List, map, length, sym, ap, refl, ◌∙◌, arith}
 use Rattle.std.specs.Prelude.{◌^◌, ◌==◌, min, ◌&&◌, nat_lt, if◌then◌else◌}
 use Rattle.std.specs.List.{range_with_len, sum_by}
 use Rattle.std.proofs.lemmas.List.Sums.{sum_by-cons}
 use Rattle.tta_list.proofs.Lists.{sum_by-map}
 use Rattle.tta_rtl.specs.Cited.{Layout, BusFields, Machine, has_bit, bus_width, short_width, fields_of, layout_of, is_signed, Signal, Slice, Const, Join, Select, Expression, buses_width, long_width, below_bus, below_payload, above, shares_from, with_high, short_part, choice, text_of}
 use Rattle.tta_hardware.specs.Signals.{Whole}
-use Rattle.tta_rtl.specs.Parts.{part_text, share_width, above_text, shares_text, high_text, short_text}
+use Rattle.tta_rtl.specs.Parts.{share_width, above_text, shares_text, high_text, short_text}
 
 -- ---- widths
 

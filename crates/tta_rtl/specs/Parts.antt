@@ -1,5 +1,5 @@
 -- The text of parts of the instruction's word, and of wires that are made of them.
-use Rattle.std.specs.Prelude.{ℕ, ◌-◌, ◌+◌, ◌^◌, ◌==◌, min, Bool, ◌&&◌, nat_lt, if◌then◌else◌, List, [], ◌∷◌, ◌++◌, codes, map}
+use Rattle.std.specs.Prelude.{ℕ, ◌-◌, ◌+◌, ◌^◌, ◌==◌, min, Bool, ◌&&◌, nat_lt, if◌then◌else◌, List, [], ◌∷◌, codes, map}
 use Rattle.std.specs.List.{sum_by}
 use Rattle.tta_rtl.specs.Cited.{BusFields, Machine, has_bit, Field, Fetched, constant, part, joined, choice}
 use Rattle.tta_rtl.specs.Texts.{wires_text}

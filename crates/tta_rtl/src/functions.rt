@@ -1,6 +1,6 @@
 //! The operations, as functions of two words.
 
-ghost use Rattle.std.specs.Prelude.{◌≡◌, ◌<◌, ◌++◌, length, slice_index_or, OnOk};
+ghost use Rattle.std.specs.Prelude.{◌≡◌, ◌<◌, ◌++◌, length, OnOk};
 ghost use Rattle.std.specs.Option.{option_map};
 ghost use Rattle.tta_ops.specs.Set.{stated};
 ghost use Rattle.tta_rtl.specs.Functions as f;

@@ -1,6 +1,6 @@
 //! What a number draws.
 
-ghost use Rattle.std.specs.Prelude.{◌≡◌, ◌<◌};
+ghost use Rattle.std.specs.Prelude.{◌≡◌};
 ghost use Rattle.tta_sample.specs.Sample as spec;
 
 /// The number after another.

@@ -5,7 +5,7 @@ ghost use Rattle.std.specs.Prelude.{fold, length, map, is_some, option_to_list, 
 ghost use Rattle.std.specs.List.{filter_map, list_any, AllByRecursion};
 ghost use Rattle.tta_ops.specs.Set.{stated};
 ghost use Rattle.tta_arch.specs.Effects.{store_data, store_frame};
-ghost use Rattle.tta_arch.specs.Rules.{are_different, is_stream_op};
+ghost use Rattle.tta_arch.specs.Rules.{are_different};
 ghost use Rattle.tta_flight.specs.Rings.{HaveCome};
 ghost use Rattle.tta_sim.specs.declared.cycle_step.CycleStep.TheVariants.{Ran};
 ghost use Rattle.tta_sim.specs.Decoded.{is_nil};

@@ -1,20 +1,17 @@
 //! A run.
 
 ghost use Rattle.std.specs.Prelude.{◌≡◌, ◌+◌, ◌<◌, ◌≤◌, ◌^◌, [], ℕ, List, length};
-ghost use Rattle.std.specs.Prelude.{option_map, if◌then◌else◌, false, ◌&&◌, is_none};
-ghost use Rattle.std.specs.Prelude.{replicate, slice_index, IfOk, IsTrue};
+ghost use Rattle.std.specs.Prelude.{if◌then◌else◌, false, ◌&&◌, is_none};
+ghost use Rattle.std.specs.Prelude.{replicate, IfOk};
 ghost use Rattle.tta_ops.specs.Set.{stated};
-ghost use Rattle.tta_arch.specs.Effects.{KeptReg, KeptImm, KeptOperand, KeptRa, kept};
+ghost use Rattle.tta_arch.specs.Effects.{kept};
 ghost use Rattle.tta_code.specs.Cycle.{State, next as next_state, start};
-ghost use Rattle.tta_code.specs.Cycle.{port as port_of};
 ghost use Rattle.tta_code.specs.Legal.{IsLegalCode};
-ghost use Rattle.tta_sim.specs.Places.{is_place};
-ghost use Rattle.tta_code.specs.Results.{due_at};
 ghost use Rattle.tta_sim.specs.Results.{HasUnits, AreResultsOf, units_of};
 ghost use Rattle.tta_list.specs.Input.{IsFed};
 ghost use Rattle.tta_list.specs.Iterate.{iterate};
 ghost use Rattle.tta_sim.specs.Held.{Stands, GoesTo, IsAnswer, IsSilentRun, IsRunOf, has_taken};
-ghost use Rattle.tta_sim.specs.Held.{cycles_of, goes_pure, is_halted, fault_number, as_outcome};
+ghost use Rattle.tta_sim.specs.Held.{cycles_of, goes_pure};
 ghost use Rattle.tta_sim.specs.declared.cycle_step.CycleStep.TheVariants.{Waiting};
 
 use crate::cycle_step::CycleStep;

@@ -7,9 +7,9 @@ ghost use Rattle.tta_parse.specs.Names.{named_in};
 ghost use Rattle.tta_parse.specs.Taken.{Takes};
 ghost use Rattle.tta_ops.specs.Set.{stated};
 ghost use Rattle.tta_tac.specs.Draft.{draft_seen, proc_seen, nothing};
-ghost use Rattle.tta_tac.specs.DraftRules.{IsDraft, IsBegun};
+ghost use Rattle.tta_tac.specs.DraftRules.{IsDraft};
 ghost use Rattle.tta_tac.specs.FirstPass.{take_line, take_form, take_proc, take_label, take_step};
-ghost use Rattle.tta_tac.specs.FirstPass.{has_twice, with_fresh, labelled, stepped, close_if};
+ghost use Rattle.tta_tac.specs.FirstPass.{has_twice, with_fresh, labelled};
 ghost use Rattle.tta_tac.specs.FirstPass.{take_data};
 ghost use Rattle.tta_tac.specs.Seen.{form_seen};
 

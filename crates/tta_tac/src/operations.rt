@@ -1,6 +1,6 @@
 //! The operations that lines ask for.
 
-ghost use Rattle.std.specs.Prelude.{◌≡◌, ◌==◌, false, not, is_none, Ok, codes, length};
+ghost use Rattle.std.specs.Prelude.{◌≡◌, ◌==◌, false, not, is_none, Ok, length};
 ghost use Rattle.std.specs.Option.{option_map_or};
 ghost use Rattle.tta_parse.specs.Steps.{refuse_if};
 ghost use Rattle.tta_ops.specs.Set.{stated};

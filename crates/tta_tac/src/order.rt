@@ -1,7 +1,7 @@
 //! Numbers of procedures that never rise along calls. Procedures that lead to one another have the
 //! same number, and all others have different ones; but nothing hangs on that but time.
 
-ghost use Rattle.std.specs.Prelude.{◌≡◌, true, false, nat_le, length, slice_index_or, IfOk};
+ghost use Rattle.std.specs.Prelude.{◌≡◌, true, false, nat_le, length, IfOk};
 ghost use Rattle.std.specs.List.{list_all};
 ghost use Rattle.tta_tac.specs.Cycles.{AreLevel, passes};
 

@@ -1,5 +1,5 @@
 -- Code that was built, and what became of its image; and why none was built.
-use Rattle.std.proofs.Common.{◌≡◌, Bool, true, false, ℕ, List, Result, Ok, Err, sym, subst}
+use Rattle.std.proofs.Common.{◌≡◌, Bool, ℕ, List, Result, Ok, Err, sym, subst}
 use Rattle.tta_tool.specs.Cited.{Units, Machine, Program, Whole, Image, IsBuiltWith, HasCauseWith, MachineFile, Status, MadeEnds, no_memory}
 use Rattle.tta_build.specs.declared.error.BuildError.{BuildError}
 use Rattle.tta_build.specs.declared.error.BuildError.TheVariants.{NotCovered, NoUnit, FrameFull, CodeFull, NoMemory}

@@ -1,7 +1,7 @@
 //! One line of links.
 
-ghost use Rattle.std.specs.Prelude.{◌≡◌, ◌<◌, ◌≤◌, length, map, MatchResult, OnErr, Ok, Err, slice_index_or};
-ghost use Rattle.std.specs.Prelude.{is_some, None, Some, slice_set};
+ghost use Rattle.std.specs.Prelude.{◌≡◌, ◌<◌, ◌≤◌, length, map, MatchResult, Ok, Err, slice_index_or};
+ghost use Rattle.std.specs.Prelude.{is_some, None, Some};
 ghost use Rattle.std.specs.List.{list_any};
 ghost use Rattle.tta_parse.specs.Lines.{plain};
 ghost use Rattle.tta_topology.specs.Links as spec;

@@ -1,5 +1,5 @@
 -- Every signal of a machine can be told.
-use Rattle.std.proofs.Common.{◌≡◌, ℕ, zero, suc, ◌+◌, ◌<◌, ◌≤◌, Bool, true, List, [], ◌∷◌, ◌++◌, length, map, IsTrue, refl, arith}
+use Rattle.std.proofs.Common.{◌≡◌, ℕ, zero, suc, ◌+◌, ◌<◌, ◌≤◌, Bool, true, List, [], ◌∷◌, length, map, IsTrue, refl, arith}
 use Rattle.std.specs.List.{AllByRecursion, flat_map, enumerate_from, range_with_len, list_all}
 use Rattle.std.proofs.lemmas.Bool.{and_parts, lt-ltb}
 use Rattle.tta_list.proofs.Lists.{all_append}

@@ -8,7 +8,7 @@ ghost use Rattle.tta_list.specs.Input.{IsFed};
 ghost use Rattle.tta_code.specs.Cycle.{State, next as next_state};
 ghost use Rattle.tta_sim.specs.Held.{Stands, IsRunOf};
 ghost use Rattle.tta_sim.specs.Places.{HasWritten};
-ghost use Rattle.tta_waves.specs.Dump.{state_text, states_text};
+ghost use Rattle.tta_waves.specs.Dump.{states_text};
 ghost use Rattle.tta_places.specs.Carried.{carried, coming, slots_of};
 ghost use Rattle.tta_waves.specs.Levels.{levels_in};
 ghost use Rattle.tta_waves.specs.Signals.{signals_of};

@@ -1,6 +1,6 @@
 //! The homes and intervals of the variables.
 
-ghost use Rattle.std.specs.Prelude.{◌≡◌, ◌≤◌, ◌<◌, ◌^◌, ◌*◌, ◌++◌, OnOk};
+ghost use Rattle.std.specs.Prelude.{◌≡◌, ◌≤◌, ◌<◌, ◌^◌, ◌++◌, OnOk};
 ghost use Rattle.std.specs.List.{flat_map};
 ghost use Rattle.tta_arch.specs.Fields.{numbers};
 ghost use Rattle.tta_stages.specs.ProgramText.{own_slots, home_or_slot, position_text};

@@ -1,4 +1,3 @@
-use Rattle.std.proofs.Common.{subst, sym}
 use Rattle.tta_alloc.proofs.EachInterval.{below_none, below_more, interval_is}
 use Rattle.tta_alloc.proofs.taken.each.Goals as goal
 

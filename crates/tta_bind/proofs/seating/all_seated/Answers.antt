@@ -1,4 +1,4 @@
-use Rattle.std.proofs.Common.{sym, ◌∙◌}
+use Rattle.std.proofs.Common.{sym}
 use Rattle.tta_bind.proofs.Walks.{seated_begin, seated_next, seated_done}
 use Rattle.tta_bind.proofs.seating.all_seated.Goals as goal
 

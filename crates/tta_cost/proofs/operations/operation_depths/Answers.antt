@@ -1,4 +1,4 @@
-use Rattle.std.proofs.Common.{◌≡◌, ℕ, [], ◌∷◌, ◌++◌, ap, ◌∙◌, slice_index_or}
+use Rattle.std.proofs.Common.{ℕ, [], ◌∷◌, ◌++◌, ap, ◌∙◌, slice_index_or}
 use Rattle.tta_cost.specs.Cited.{stated}
 use Rattle.tta_cost.specs.Operations.{operation_depth}
 use Rattle.tta_cost.proofs.Listed.{made_more}

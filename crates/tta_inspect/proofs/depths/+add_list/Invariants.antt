@@ -1,4 +1,3 @@
-use Rattle.std.proofs.Common.{ℕ}
 use Rattle.tta_inspect.proofs.depths.+add_list.Given as goal
 
 -- fewer numbers are left

@@ -1,4 +1,3 @@
-use Rattle.std.proofs.Common.{ℕ}
 use Rattle.tta_inspect.proofs.depths.+exponent_from.Given as goal
 
 -- fewer exponents are left

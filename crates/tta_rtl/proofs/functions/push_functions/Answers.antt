@@ -1,4 +1,4 @@
-use Rattle.std.proofs.Common.{◌≡◌, arith}
+use Rattle.std.proofs.Common.{arith}
 use Rattle.tta_rtl.specs.Cited.{stated}
 use Rattle.tta_rtl.specs.Functions.{offered_text}
 use Rattle.tta_rtl.proofs.Texts.{number_more}

@@ -1,4 +1,4 @@
-use Rattle.std.proofs.Common.{◌+◌, arith}
+use Rattle.std.proofs.Common.{arith}
 use Rattle.tta_rtl.specs.Kept.{imm_line}
 use Rattle.tta_rtl.proofs.Texts.{number_more}
 use Rattle.tta_rtl.proofs.longs.push_imm_lines.Goals as goal

@@ -1,4 +1,4 @@
-use Rattle.std.proofs.Common.{List, ℕ, [], ◌++◌}
+use Rattle.std.proofs.Common.{[], ◌++◌}
 use Rattle.std.specs.Prelude.{codes}
 use Rattle.tta_list.proofs.Lists.{then_more}
 use Rattle.tta_list.proofs.Results.{onward}

@@ -1,4 +1,4 @@
-use Rattle.std.proofs.Common.{◌+◌, arith}
+use Rattle.std.proofs.Common.{arith}
 use Rattle.tta_rtl.specs.Kept.{file_line}
 use Rattle.tta_rtl.proofs.Texts.{number_more}
 use Rattle.tta_rtl.proofs.registers.push_file_lines.Goals as goal

@@ -1,4 +1,3 @@
-use Rattle.std.proofs.Common.{ℕ}
 use Rattle.tta_rtl.proofs.spaces.+push_bits.Given as goal
 
 -- the rest has fewer bits

@@ -1,4 +1,4 @@
-use Rattle.std.proofs.Common.{◌≡◌, List, ℕ, true, ◌++◌, ap, ◌∙◌}
+use Rattle.std.proofs.Common.{List, ℕ, true, ◌++◌, ap, ◌∙◌}
 use Rattle.std.specs.Prelude.{codes}
 use Rattle.tta_list.proofs.Results.{onward}
 use Rattle.tta_rtl.specs.Cited.{Layout, reading}

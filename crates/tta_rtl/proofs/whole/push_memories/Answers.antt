@@ -1,4 +1,4 @@
-use Rattle.std.proofs.Common.{◌≡◌, List, ℕ, [], ◌++◌, length, replicate, sym, ap, ◌∙◌}
+use Rattle.std.proofs.Common.{List, ℕ, [], ◌++◌, length, replicate, sym, ap, ◌∙◌}
 use Rattle.std.specs.Prelude.{codes}
 use Rattle.std.specs.List.{flat_map, enumerate_from}
 use Rattle.std.proofs.lemmas.List.{length-replicate}

@@ -1,5 +1,4 @@
-use Rattle.std.proofs.Common.{◌≡◌, List, ℕ, [], ◌++◌, true, false, sym, ap, ◌∙◌}
-use Rattle.std.proofs.lemmas.List.{append-nil}
+use Rattle.std.proofs.Common.{List, ℕ, ◌++◌, true, false, sym, ap, ◌∙◌}
 use Rattle.tta_list.proofs.Lists.{then_more}
 use Rattle.tta_list.proofs.Results.{onward}
 use Rattle.tta_rtl.specs.Cited.{stated, circuit_with, register_names, wire_names}

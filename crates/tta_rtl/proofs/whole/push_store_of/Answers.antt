@@ -1,4 +1,4 @@
-use Rattle.std.proofs.Common.{◌≡◌, List, ℕ, ◌++◌, ap, ◌∙◌}
+use Rattle.std.proofs.Common.{List, ℕ, ◌++◌, ap, ◌∙◌}
 use Rattle.tta_list.proofs.Results.{onward}
 use Rattle.tta_rtl.specs.Cited.{WritePort, Store}
 use Rattle.tta_hardware.specs.Signals.{Signal as Named}

@@ -1,4 +1,4 @@
-use Rattle.std.proofs.Common.{◌≡◌, [], ◌∷◌, ◌++◌, ap, ◌∙◌}
+use Rattle.std.proofs.Common.{[], ◌∷◌, ◌++◌, ap, ◌∙◌}
 use Rattle.tta_waves.specs.Levels.{level_in}
 use Rattle.tta_places.proofs.Lists.{one_on}
 use Rattle.tta_waves.proofs.levels.push_levels.Goals as goal

@@ -1,4 +1,4 @@
-use Rattle.std.proofs.Common.{◌≡◌, true, false, sym, ◌∙◌}
+use Rattle.std.proofs.Common.{true, false, sym}
 use Rattle.tta_waves.specs.Levels.{starts}
 use Rattle.tta_places.proofs.Lists.{any_on}
 use Rattle.tta_waves.proofs.moment.is_started.Goals as goal

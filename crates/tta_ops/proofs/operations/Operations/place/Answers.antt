@@ -1,4 +1,4 @@
-use Rattle.std.proofs.Common.{◌∙◌, ap, map, refl, slice_get, sym}
+use Rattle.std.proofs.Common.{◌∙◌, ap, refl, slice_get, sym}
 use Rattle.std.proofs.lemmas.Option.{slice_get_past, slice_get_read}
 use Rattle.tta_ops.proofs.Names.{place_at}
 use Rattle.tta_ops.proofs.operations.Operations.place.Goals as goal
