@@ -13,7 +13,7 @@ use Rattle.tta_names.specs.Names.{place_name, signal_name}
 use Rattle.tta_verilog.proofs.Reader.{after, otherwise, past}
 use Rattle.tta_told.proofs.Lookups.{name_at, found_at, last_cut, number_cut, pair_is, value_is}
 use Rattle.tta_told.proofs.HasName.{small, is_named}
-use Rattle.tta_told.proofs.Different.{buses_differ, files_differ, imms_differ, units_differ}
+use Rattle.tta_told.proofs.Different.{bus_names, file_names, imm_names, unit_names, buses_differ, files_differ, imms_differ, units_differ}
 
 -- ---- a reader of names
 
@@ -47,26 +47,14 @@ told [] w = None
 told (t ∷ ts) w = otherwise (after (past t.0 w) t.1) (told ts w)
 
 module _ (m : Machine) (good : IsMachine m) where
-  abbrev bus_names : List (List ℕ)
-  bus_names = map (λ b. b.name) m.buses
-
-  abbrev file_names : List (List ℕ)
-  file_names = map (λ f. f.name) m.files
-
-  abbrev imm_names : List (List ℕ)
-  imm_names = map (λ i. i.name) m.imms
-
-  abbrev unit_names : List (List ℕ)
-  unit_names = map (λ u. u.name) m.units
-
   -- how the names of places begin
   abbrev places : List (List ℕ × (List ℕ → Option Named))
   places =
       (codes "n_ra", alone (Keeps KeptRa))
-      ∷ (codes "kept_", of_part (λ k. Keeps (KeptOperand k)) unit_names)
-      ∷ (codes "result_", of_part (λ k. Keeps (KeptPort k)) unit_names)
-      ∷ (codes "reg_", of_two (λ k n. Keeps (KeptReg k n)) file_names)
-      ∷ (codes "imm_", of_two (λ k n. Keeps (KeptImm k n)) imm_names) ∷ []
+      ∷ (codes "kept_", of_part (λ k. Keeps (KeptOperand k)) (unit_names m))
+      ∷ (codes "result_", of_part (λ k. Keeps (KeptPort k)) (unit_names m))
+      ∷ (codes "reg_", of_two (λ k n. Keeps (KeptReg k n)) (file_names m))
+      ∷ (codes "imm_", of_two (λ k n. Keeps (KeptImm k n)) (imm_names m)) ∷ []
 
   -- how the names of all kinds begin
   abbrev table : List (List ℕ × (List ℕ → Option Named))
@@ -93,31 +81,31 @@ module _ (m : Machine) (good : IsMachine m) where
       ∷ (codes "n_template", alone (Fetched TemplateOf))
       ∷ (codes "n_long", alone (Fetched LongOf))
       ∷ (codes "n_underway_", of_number (λ n. Underway n))
-      ∷ (codes "shown_", of_part (λ k. Port k) unit_names)
-      ∷ (codes "trigger_", of_part (λ k. Trigger k) unit_names)
-      ∷ (codes "operand_", of_part (λ k. Operand k) unit_names)
-      ∷ (codes "guard_", of_part (λ k. Fetched (GuardOf k)) bus_names)
-      ∷ (codes "tag_", of_part (λ k. Fetched (IsShort k)) bus_names)
-      ∷ (codes "source_", of_part (λ k. Fetched (SourceOf k)) bus_names)
-      ∷ (codes "short_", of_part (λ k. Fetched (ShortOf k)) bus_names)
-      ∷ (codes "dest_", of_part (λ k. Fetched (DestOf k)) bus_names)
-      ∷ (codes "bus_", of_part (λ k. Word k) bus_names)
-      ∷ (codes "acts_", of_part (λ k. Acts k) bus_names)
-      ∷ (codes "due_", of_two (λ k n. IsDue k n) unit_names)
-      ∷ (codes "coming_", of_two (λ k n. Due k n) unit_names)
-      ∷ (codes "began_", of_two (λ k n. HasBegun k n) unit_names)
-      ∷ (codes "raw_", of_two (λ k n. Raw k n) unit_names)
-      ∷ (codes "inside_", of_two (λ k n. IsInside k n) unit_names)
-      ∷ (codes "start_", of_two (λ k n. Starts k n) unit_names)
+      ∷ (codes "shown_", of_part (λ k. Port k) (unit_names m))
+      ∷ (codes "trigger_", of_part (λ k. Trigger k) (unit_names m))
+      ∷ (codes "operand_", of_part (λ k. Operand k) (unit_names m))
+      ∷ (codes "guard_", of_part (λ k. Fetched (GuardOf k)) (bus_names m))
+      ∷ (codes "tag_", of_part (λ k. Fetched (IsShort k)) (bus_names m))
+      ∷ (codes "source_", of_part (λ k. Fetched (SourceOf k)) (bus_names m))
+      ∷ (codes "short_", of_part (λ k. Fetched (ShortOf k)) (bus_names m))
+      ∷ (codes "dest_", of_part (λ k. Fetched (DestOf k)) (bus_names m))
+      ∷ (codes "bus_", of_part (λ k. Word k) (bus_names m))
+      ∷ (codes "acts_", of_part (λ k. Acts k) (bus_names m))
+      ∷ (codes "due_", of_two (λ k n. IsDue k n) (unit_names m))
+      ∷ (codes "coming_", of_two (λ k n. Due k n) (unit_names m))
+      ∷ (codes "began_", of_two (λ k n. HasBegun k n) (unit_names m))
+      ∷ (codes "raw_", of_two (λ k n. Raw k n) (unit_names m))
+      ∷ (codes "inside_", of_two (λ k n. IsInside k n) (unit_names m))
+      ∷ (codes "start_", of_two (λ k n. Starts k n) (unit_names m))
       ∷ (codes "n_past", alone (Watches IsPast))
       ∷ (codes "n_fault", alone (Watches FaultNow))
       ∷ (codes "has_", λ w. after (told places w) of_place)
-      ∷ (codes "unset_", of_part (λ k. Watches (LacksRegister k)) bus_names)
-      ∷ (codes "unshown_", of_part (λ k. Watches (LacksPort k)) bus_names)
-      ∷ (codes "lacks_", of_part (λ k. Watches (LacksOperand k)) unit_names)
-      ∷ (codes "clashes_", of_part (λ k. Watches (Clashes k)) unit_names)
-      ∷ (codes "made_", of_two (λ k n. Boxes (Shows k n)) unit_names)
-      ∷ (codes "from_", of_three (λ k n delay. Boxes (IsFrom k n delay)) unit_names) ∷ places
+      ∷ (codes "unset_", of_part (λ k. Watches (LacksRegister k)) (bus_names m))
+      ∷ (codes "unshown_", of_part (λ k. Watches (LacksPort k)) (bus_names m))
+      ∷ (codes "lacks_", of_part (λ k. Watches (LacksOperand k)) (unit_names m))
+      ∷ (codes "clashes_", of_part (λ k. Watches (Clashes k)) (unit_names m))
+      ∷ (codes "made_", of_two (λ k n. Boxes (Shows k n)) (unit_names m))
+      ∷ (codes "from_", of_three (λ k n delay. Boxes (IsFrom k n delay)) (unit_names m)) ∷ places
 
   abbrev pub signal_told : List ℕ → Option Named
   signal_told w = told table w
@@ -158,16 +146,16 @@ module _ (m : Machine) (good : IsMachine m) where
   place_back : (p : Place) → is_named (length m.buses) (length m.files) (length m.imms) (length m.units) (Keeps p) ≡ true
       → told places (place_name m p) ≡ Some (Keeps p)
   place_back (KeptOperand k) is =
-      chosen (of_part (λ k. Keeps (KeptOperand k)) unit_names (name_at (λ x. x.name) m.units k)) _ _
+      chosen (of_part (λ k. Keeps (KeptOperand k)) (unit_names m) (name_at (λ x. x.name) m.units k)) _ _
       (part_told (λ x. x.name) (λ k. Keeps (KeptOperand k)) m.units k (units_differ m good) is)
   place_back (KeptPort k) is =
-      chosen (of_part (λ k. Keeps (KeptPort k)) unit_names (name_at (λ x. x.name) m.units k)) _ _
+      chosen (of_part (λ k. Keeps (KeptPort k)) (unit_names m) (name_at (λ x. x.name) m.units k)) _ _
       (part_told (λ x. x.name) (λ k. Keeps (KeptPort k)) m.units k (units_differ m good) is)
   place_back (KeptReg k n) is =
-      chosen (of_two (λ k n. Keeps (KeptReg k n)) file_names ((name_at (λ x. x.name) m.files k ++ (95 ∷ [])) ++ decimal n)) _ _
+      chosen (of_two (λ k n. Keeps (KeptReg k n)) (file_names m) ((name_at (λ x. x.name) m.files k ++ (95 ∷ [])) ++ decimal n)) _ _
       (two_told (λ x. x.name) (λ k n. Keeps (KeptReg k n)) m.files k n (files_differ m good) is)
   place_back (KeptImm k n) is =
-      chosen (of_two (λ k n. Keeps (KeptImm k n)) imm_names ((name_at (λ x. x.name) m.imms k ++ (95 ∷ [])) ++ decimal n)) _ _
+      chosen (of_two (λ k n. Keeps (KeptImm k n)) (imm_names m) ((name_at (λ x. x.name) m.imms k ++ (95 ∷ [])) ++ decimal n)) _ _
       (two_told (λ x. x.name) (λ k n. Keeps (KeptImm k n)) m.imms k n (imms_differ m good) is)
   place_back KeptRa is = refl
 
@@ -176,52 +164,52 @@ module _ (m : Machine) (good : IsMachine m) where
   read_back (Underway n) is =
       ap (λ n. Some (Underway n)) (value_is n (ltb-true n (2 ^ 64) is))
   read_back (Port k) is =
-      chosen (of_part (λ k. Port k) unit_names (name_at (λ x. x.name) m.units k)) _ _
+      chosen (of_part (λ k. Port k) (unit_names m) (name_at (λ x. x.name) m.units k)) _ _
       (part_told (λ x. x.name) (λ k. Port k) m.units k (units_differ m good) is)
   read_back (Trigger k) is =
-      chosen (of_part (λ k. Trigger k) unit_names (name_at (λ x. x.name) m.units k)) _ _
+      chosen (of_part (λ k. Trigger k) (unit_names m) (name_at (λ x. x.name) m.units k)) _ _
       (part_told (λ x. x.name) (λ k. Trigger k) m.units k (units_differ m good) is)
   read_back (Operand k) is =
-      chosen (of_part (λ k. Operand k) unit_names (name_at (λ x. x.name) m.units k)) _ _
+      chosen (of_part (λ k. Operand k) (unit_names m) (name_at (λ x. x.name) m.units k)) _ _
       (part_told (λ x. x.name) (λ k. Operand k) m.units k (units_differ m good) is)
   read_back (Fetched (GuardOf k)) is =
-      chosen (of_part (λ k. Fetched (GuardOf k)) bus_names (name_at (λ x. x.name) m.buses k)) _ _
+      chosen (of_part (λ k. Fetched (GuardOf k)) (bus_names m) (name_at (λ x. x.name) m.buses k)) _ _
       (part_told (λ x. x.name) (λ k. Fetched (GuardOf k)) m.buses k (buses_differ m good) is)
   read_back (Fetched (IsShort k)) is =
-      chosen (of_part (λ k. Fetched (IsShort k)) bus_names (name_at (λ x. x.name) m.buses k)) _ _
+      chosen (of_part (λ k. Fetched (IsShort k)) (bus_names m) (name_at (λ x. x.name) m.buses k)) _ _
       (part_told (λ x. x.name) (λ k. Fetched (IsShort k)) m.buses k (buses_differ m good) is)
   read_back (Fetched (SourceOf k)) is =
-      chosen (of_part (λ k. Fetched (SourceOf k)) bus_names (name_at (λ x. x.name) m.buses k)) _ _
+      chosen (of_part (λ k. Fetched (SourceOf k)) (bus_names m) (name_at (λ x. x.name) m.buses k)) _ _
       (part_told (λ x. x.name) (λ k. Fetched (SourceOf k)) m.buses k (buses_differ m good) is)
   read_back (Fetched (ShortOf k)) is =
-      chosen (of_part (λ k. Fetched (ShortOf k)) bus_names (name_at (λ x. x.name) m.buses k)) _ _
+      chosen (of_part (λ k. Fetched (ShortOf k)) (bus_names m) (name_at (λ x. x.name) m.buses k)) _ _
       (part_told (λ x. x.name) (λ k. Fetched (ShortOf k)) m.buses k (buses_differ m good) is)
   read_back (Fetched (DestOf k)) is =
-      chosen (of_part (λ k. Fetched (DestOf k)) bus_names (name_at (λ x. x.name) m.buses k)) _ _
+      chosen (of_part (λ k. Fetched (DestOf k)) (bus_names m) (name_at (λ x. x.name) m.buses k)) _ _
       (part_told (λ x. x.name) (λ k. Fetched (DestOf k)) m.buses k (buses_differ m good) is)
   read_back (Word k) is =
-      chosen (of_part (λ k. Word k) bus_names (name_at (λ x. x.name) m.buses k)) _ _
+      chosen (of_part (λ k. Word k) (bus_names m) (name_at (λ x. x.name) m.buses k)) _ _
       (part_told (λ x. x.name) (λ k. Word k) m.buses k (buses_differ m good) is)
   read_back (Acts k) is =
-      chosen (of_part (λ k. Acts k) bus_names (name_at (λ x. x.name) m.buses k)) _ _
+      chosen (of_part (λ k. Acts k) (bus_names m) (name_at (λ x. x.name) m.buses k)) _ _
       (part_told (λ x. x.name) (λ k. Acts k) m.buses k (buses_differ m good) is)
   read_back (IsDue k n) is =
-      chosen (of_two (λ k n. IsDue k n) unit_names ((name_at (λ x. x.name) m.units k ++ (95 ∷ [])) ++ decimal n)) _ _
+      chosen (of_two (λ k n. IsDue k n) (unit_names m) ((name_at (λ x. x.name) m.units k ++ (95 ∷ [])) ++ decimal n)) _ _
       (two_told (λ x. x.name) (λ k n. IsDue k n) m.units k n (units_differ m good) is)
   read_back (Due k n) is =
-      chosen (of_two (λ k n. Due k n) unit_names ((name_at (λ x. x.name) m.units k ++ (95 ∷ [])) ++ decimal n)) _ _
+      chosen (of_two (λ k n. Due k n) (unit_names m) ((name_at (λ x. x.name) m.units k ++ (95 ∷ [])) ++ decimal n)) _ _
       (two_told (λ x. x.name) (λ k n. Due k n) m.units k n (units_differ m good) is)
   read_back (HasBegun k n) is =
-      chosen (of_two (λ k n. HasBegun k n) unit_names ((name_at (λ x. x.name) m.units k ++ (95 ∷ [])) ++ decimal n)) _ _
+      chosen (of_two (λ k n. HasBegun k n) (unit_names m) ((name_at (λ x. x.name) m.units k ++ (95 ∷ [])) ++ decimal n)) _ _
       (two_told (λ x. x.name) (λ k n. HasBegun k n) m.units k n (units_differ m good) is)
   read_back (Raw k n) is =
-      chosen (of_two (λ k n. Raw k n) unit_names ((name_at (λ x. x.name) m.units k ++ (95 ∷ [])) ++ decimal n)) _ _
+      chosen (of_two (λ k n. Raw k n) (unit_names m) ((name_at (λ x. x.name) m.units k ++ (95 ∷ [])) ++ decimal n)) _ _
       (two_told (λ x. x.name) (λ k n. Raw k n) m.units k n (units_differ m good) is)
   read_back (IsInside k n) is =
-      chosen (of_two (λ k n. IsInside k n) unit_names ((name_at (λ x. x.name) m.units k ++ (95 ∷ [])) ++ decimal n)) _ _
+      chosen (of_two (λ k n. IsInside k n) (unit_names m) ((name_at (λ x. x.name) m.units k ++ (95 ∷ [])) ++ decimal n)) _ _
       (two_told (λ x. x.name) (λ k n. IsInside k n) m.units k n (units_differ m good) is)
   read_back (Starts k n) is =
-      chosen (of_two (λ k n. Starts k n) unit_names ((name_at (λ x. x.name) m.units k ++ (95 ∷ [])) ++ decimal n)) _ _
+      chosen (of_two (λ k n. Starts k n) (unit_names m) ((name_at (λ x. x.name) m.units k ++ (95 ∷ [])) ++ decimal n)) _ _
       (two_told (λ x. x.name) (λ k n. Starts k n) m.units k n (units_differ m good) is)
   read_back (Keeps (KeptReg k n)) is = place_back (KeptReg k n) is
   read_back (Keeps (KeptImm k n)) is = place_back (KeptImm k n) is
@@ -230,22 +218,22 @@ module _ (m : Machine) (good : IsMachine m) where
   read_back (Watches (HasWord p)) is =
       chosen (after (told places (place_name m p)) of_place) _ _ (ap (λ o. after o of_place) (place_back p is))
   read_back (Watches (LacksRegister k)) is =
-      chosen (of_part (λ k. Watches (LacksRegister k)) bus_names (name_at (λ x. x.name) m.buses k)) _ _
+      chosen (of_part (λ k. Watches (LacksRegister k)) (bus_names m) (name_at (λ x. x.name) m.buses k)) _ _
       (part_told (λ x. x.name) (λ k. Watches (LacksRegister k)) m.buses k (buses_differ m good) is)
   read_back (Watches (LacksPort k)) is =
-      chosen (of_part (λ k. Watches (LacksPort k)) bus_names (name_at (λ x. x.name) m.buses k)) _ _
+      chosen (of_part (λ k. Watches (LacksPort k)) (bus_names m) (name_at (λ x. x.name) m.buses k)) _ _
       (part_told (λ x. x.name) (λ k. Watches (LacksPort k)) m.buses k (buses_differ m good) is)
   read_back (Watches (LacksOperand k)) is =
-      chosen (of_part (λ k. Watches (LacksOperand k)) unit_names (name_at (λ x. x.name) m.units k)) _ _
+      chosen (of_part (λ k. Watches (LacksOperand k)) (unit_names m) (name_at (λ x. x.name) m.units k)) _ _
       (part_told (λ x. x.name) (λ k. Watches (LacksOperand k)) m.units k (units_differ m good) is)
   read_back (Watches (Clashes k)) is =
-      chosen (of_part (λ k. Watches (Clashes k)) unit_names (name_at (λ x. x.name) m.units k)) _ _
+      chosen (of_part (λ k. Watches (Clashes k)) (unit_names m) (name_at (λ x. x.name) m.units k)) _ _
       (part_told (λ x. x.name) (λ k. Watches (Clashes k)) m.units k (units_differ m good) is)
   read_back (Boxes (Shows k n)) is =
-      chosen (of_two (λ k n. Boxes (Shows k n)) unit_names ((name_at (λ x. x.name) m.units k ++ (95 ∷ [])) ++ decimal n)) _ _
+      chosen (of_two (λ k n. Boxes (Shows k n)) (unit_names m) ((name_at (λ x. x.name) m.units k ++ (95 ∷ [])) ++ decimal n)) _ _
       (two_told (λ x. x.name) (λ k n. Boxes (Shows k n)) m.units k n (units_differ m good) is)
   read_back (Boxes (IsFrom k n d)) is =
-      chosen (of_three (λ k n d. Boxes (IsFrom k n d)) unit_names
+      chosen (of_three (λ k n d. Boxes (IsFrom k n d)) (unit_names m)
       (((name_at (λ x. x.name) m.units k ++ (95 ∷ [])) ++ decimal n) ++ (95 ∷ decimal d))) _ _
       (three_told (λ x. x.name) (λ k n d. Boxes (IsFrom k n d)) m.units k n d (units_differ m good) is)
   read_back n is = refl
