@@ -13,7 +13,7 @@ use crate::candidates::Candidates;
 use crate::inner_loops::{in_inner_loops, is_marked};
 use crate::keeping::{beside, chosen};
 use crate::least::Earliest;
-use crate::second_round::{RoundFit, is_worth, second_round};
+use crate::second_round::{RoundFit, promises_gain, second_round};
 use crate::trail::{Derivation, Rounds, are_served};
 use std::alloc::{AllocError, Global};
 use tta_arch::Machine;
@@ -221,7 +221,7 @@ impl Chooser {
     {
         let least = self.earliest.cycles(on.joined.machine, b.items.as_slice());
         let best = self.place_first(alloc, on, b, least)?;
-        if is_inner && is_worth(b.items.len(), best.placed.length, least) {
+        if is_inner && promises_gain(b.items.len(), best.placed.length, least) {
             self.with_latest(alloc, on, b, best)
         } else {
             Ok(best)

@@ -216,7 +216,7 @@ impl Rounder {
     {
         match self.orders.by_latest(alloc, list, &on.joined, placed)? {
             Some(other) => {
-                let round = self.in_order(alloc, on, other, Order::Items)?;
+                let round = self.in_order(alloc, on, other, Order::Latest)?;
                 Ok(Some(round))
             }
             None => Ok(None),

@@ -1,4 +1,4 @@
-//! Another second round of a list, by the latest cycles of its placement.
+//! A second round of a list, by the latest cycles of its placement.
 
 ghost use Rattle.std.specs.Prelude.{◌≡◌, true, IfOk, IfSome};
 ghost use Rattle.tta_moves.specs.Slots.{is_list};
@@ -14,17 +14,17 @@ use tta_moves::{BlockList, Placed};
 use tta_sched::Placer;
 
 /// Up to so many items another round is worth its time in an innermost loop.
-const MANY_ITEMS: usize = 140;
+const MOST_ITEMS: usize = 140;
 
 /// Another round is worth its time where the placement is longer than the least cycles by one part in so
 /// many of them.
-const PARTS: u32 = 3;
+const GAIN_PARTS: u32 = 3;
 
 /// Whether another round is worth its time for a list of so many items in an innermost loop: by how many
 /// cycles its placement takes, and how many any takes at the least.
-pub fn is_worth(items: usize, length: u32, least: u32) -> bool {
+pub fn promises_gain(items: usize, length: u32, least: u32) -> bool {
     let more = length.saturating_sub(least);
-    items <= MANY_ITEMS && more.saturating_mul(PARTS) >= least
+    items <= MOST_ITEMS && more.saturating_mul(GAIN_PARTS) >= least
 }
 
 /// A round, and the placement of the list after it.
@@ -35,7 +35,7 @@ pub struct RoundFit {
 }
 
 /// A round with a first fit of the list after it. It fails only where there is no memory.
-fn fit_of(
+fn round_fit(
     alloc: Global,
     placer: &mut Placer,
     on: &BuildTarget<'_>,
@@ -83,7 +83,7 @@ pub fn second_round(
 {
     match by_latest(alloc, placer, rounder, on, list)? {
         Some(round) => {
-            let fit = fit_of(alloc, placer, on, list, round)?;
+            let fit = round_fit(alloc, placer, on, list, round)?;
             Ok(Some(fit))
         }
         None => Ok(None),

@@ -11,8 +11,10 @@ use tta_optim::Passed;
 /// By what an order of a list's items goes.
 #[derive(Clone, Copy, Debug, PartialEq, Eq)]
 pub enum Order {
-    /// By items.
+    /// By items along the longest path.
     Items,
+    /// By the latest cycles in which the items of a placement could stand.
+    Latest,
     /// By groups, cycle by cycle.
     Groups,
 }

@@ -18,7 +18,7 @@ pub use Rattle.tta_disasm.specs.Canonical.{op_name}
 pub use Rattle.tta_build.specs.Parts.{IsCodeFor}
 pub use Rattle.tta_build.specs.Value.{IsCompiled}
 pub use Rattle.tta_build.specs.declared.trail.Order.{Order}
-pub use Rattle.tta_build.specs.declared.trail.Order.TheVariants.{Groups, Items}
+pub use Rattle.tta_build.specs.declared.trail.Order.TheVariants.{Groups, Items, Latest}
 pub use Rattle.tta_build.specs.declared.trail.Ordered.{Ordered}
 pub use Rattle.tta_build.specs.declared.trail.Round.{Round}
 pub use Rattle.tta_build.specs.declared.trail.Rounds.{Rounds}

@@ -2,7 +2,7 @@
 use Rattle.std.specs.Prelude.{ℕ, ◌+◌, List, [], ◌++◌, Option, None, slice_get, length, codes}
 use Rattle.std.specs.Option.{option_map_or}
 use Rattle.std.specs.List.{flat_map, enumerate_from}
-use Rattle.tta_stages.specs.Cited.{Units, GuardRef, Value, Dest, numbers, Machine, Program, Instruction, Item, Move, Long, ItemSource, Port, Address, LongValue, BlockList, Placed, Part, imm_name, place_text, guard_text, move_text, instruction_text, Order, Items, Groups, Passed, Ordered, Round, Rounds, Start, Derivation}
+use Rattle.tta_stages.specs.Cited.{Units, GuardRef, Value, Dest, numbers, Machine, Program, Instruction, Item, Move, Long, ItemSource, Port, Address, LongValue, BlockList, Placed, Part, imm_name, place_text, guard_text, move_text, instruction_text, Order, Items, Latest, Groups, Passed, Ordered, Round, Rounds, Start, Derivation}
 use Rattle.tta_moves.specs.declared.items.LongValue.TheVariants as long
 use Rattle.tta_stages.specs.Words.{count_text, pairs_text}
 use Rattle.tta_stages.specs.RegisterText.{named_text, range_text}
@@ -45,6 +45,7 @@ items_text u m items = flat_map (item_line u m) items
 -- what a list in another order is
 abbrev pub order_name : Order → List ℕ
 order_name Items = codes " ordered by items"
+order_name Latest = codes " ordered by latest cycles"
 order_name Groups = codes " ordered by groups"
 
 -- the registers that are read after a list

@@ -45,6 +45,7 @@ fn order_name(by: Order) -> &'static [u8]
 {
     match by {
         Order::Items => b" ordered by items",
+        Order::Latest => b" ordered by latest cycles",
         Order::Groups => b" ordered by groups",
     }
 }

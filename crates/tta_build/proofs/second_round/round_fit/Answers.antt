@@ -4,7 +4,7 @@ use Rattle.tta_build.specs.Cited.{BlockList, Item, Placed, Respects, IsFirstFit,
 use Rattle.tta_build.specs.declared.trail.Round.{Round}
 use Rattle.tta_build.specs.Derivation.{IsRound}
 use Rattle.tta_build.proofs.Trails.{round_list}
-use Rattle.tta_build.proofs.second_round.fit_of.Goals as goal
+use Rattle.tta_build.proofs.second_round.round_fit.Goals as goal
 
 pub place-placed-requires : goal.place-placed-requires
 place-placed-requires c = record {
