@@ -15,13 +15,19 @@ use std::alloc::{AllocError, Global};
 use tta_arch::UnitOp;
 use tta_list::Items;
 
+/// Behind all places: the number of a source that is a word.
+pub const WORD_SOURCE: u32 = NO_PLACE;
+
+/// The number of a source that is a result port.
+pub const PORT_SOURCE: u32 = NO_PLACE + 1;
+
 /// What a move reads.
 #[derive(Clone, Copy)]
 pub struct FlatReading {
     /// The word of a source that is one.
     pub word: u32,
-    /// The place that is the source; `NO_PLACE` where the source is a word, and more where it is a
-    /// result port.
+    /// The place that is the source, `WORD_SOURCE` where a word is, and `PORT_SOURCE` where a result port
+    /// is.
     pub src: u32,
     /// The place of the guard's register, `NO_PLACE` where there is no guard.
     pub guard: u32,
@@ -68,9 +74,9 @@ fn number_in(src: DecodedSource) -> u32
     ensures { result ≡ number_in src }
 {
     match src {
-        DecodedSource::Word(_) => NO_PLACE,
+        DecodedSource::Word(_) => WORD_SOURCE,
         DecodedSource::Place(number) => number,
-        DecodedSource::Port(_) => NO_PLACE + 1,
+        DecodedSource::Port(_) => PORT_SOURCE,
     }
 }
 

@@ -15,7 +15,7 @@ ghost use Rattle.tta_sim.specs.Known.{is_guard_known, is_guard_let, is_known};
 ghost use Rattle.tta_sim.specs.Known.{is_start_known, is_settled};
 
 use crate::decoded::{DecodedControl, DecodedSource, DecodedStart, DecodedWrite, Line, Reading};
-use crate::flat::{FlatReading, FlatStart};
+use crate::flat::{FlatReading, FlatStart, WORD_SOURCE};
 use crate::places::{NO_PLACE, Places};
 use crate::results::{Part, Results};
 use tta_flight::Region;
@@ -124,7 +124,7 @@ fn word_known(places: &Places, results: &Results<'_>, r: &FlatReading) -> u32
     if r.src < NO_PLACE {
         return places.at(r.src).unwrap_or(0);
     }
-    if r.src == NO_PLACE {
+    if r.src == WORD_SOURCE {
         return r.word;
     }
     results.port(r.unit).unwrap_or(0)
@@ -186,7 +186,7 @@ pub fn read_said(places: &Places, results: &Results<'_>, r: &FlatReading) -> Opt
     if r.src < NO_PLACE {
         return places.at(r.src);
     }
-    if r.src == NO_PLACE {
+    if r.src == WORD_SOURCE {
         return Some(r.word);
     }
     results.port(r.unit)

@@ -3,8 +3,7 @@
 ghost use Rattle.std.specs.Prelude.{◌≡◌, true};
 ghost use Rattle.tta_sim.specs.Results.{results_at, shown_by, AreThere};
 ghost use Rattle.tta_sim.specs.Lines.{IsLineThere};
-ghost use Rattle.tta_sim.specs.Order.{is_in_order};
-ghost use Rattle.tta_sim.specs.Known.{is_settled, mark_of, IsMarked};
+ghost use Rattle.tta_sim.specs.Known.{mark_of, IsMarked};
 
 use crate::decoded::Line;
 use crate::known::is_settled;
@@ -44,30 +43,20 @@ impl Mark {
         matches!(self, Mark::Settled)
     }
 
-    /// Whether a line can be carried out in place and all words that it takes are set, which is noted
-    /// once it is so.
+    /// Notes that all words are set which its line takes, once it is so.
     #[inline(always)]
-    pub fn settle(&mut self, places: &Places, region: &Region, part: Part, line: &Line) -> bool
+    pub fn settle(&mut self, places: &Places, region: &Region, part: Part, line: &Line)
         requires are { AreThere (results_at part region.now) }
         requires there { IsLineThere part.count line.now }
         requires marked { let shown = shown_by (results_at part region.now) in
             IsMarked places.now shown line.now self.old }
         ensures marked { let shown = shown_by (results_at part region.now) in
             IsMarked places.now shown line.now self.new }
-        ensures order { result ≡ true → is_in_order line.now ≡ true }
-        ensures settled { result ≡ true → let shown = shown_by (results_at part region.now) in
-            is_settled places.now shown line.now ≡ true }
     {
-        match *self {
-            Mark::Settled => true,
-            Mark::Apart => false,
-            Mark::Ordered => {
-                if !is_settled(places, region, part, line) {
-                    return false;
-                }
-                *self = Mark::Settled;
-                true
-            }
+        if let Mark::Ordered = *self
+            && is_settled(places, region, part, line)
+        {
+            *self = Mark::Settled;
         }
     }
 }
