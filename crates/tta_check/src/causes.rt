@@ -7,24 +7,15 @@ ghost use Rattle.tta_check.specs.Causes.{clash, delayed, unknown};
 ghost use Rattle.tta_check.specs.States.{tells};
 ghost use Rattle.tta_check.specs.Codes.{in_slots, code_in, last_code_in};
 
+use crate::codes::{
+    CLASHING_RESULTS, CONTROL_IN_DELAY, MISSING_OPERAND, UNKNOWN_TARGET, UNSET_PORT, UNSET_REGISTER,
+};
 use crate::slot_causes::{
     clash, delayed, unknown, unset_guard, unset_operand, unset_port, unset_source,
 };
 use crate::state::AbstractState;
 use tta_arch::Machine;
 use tta_code::{Instruction, Move};
-
-const UNSET_REGISTER: u8 = 60;
-
-const UNSET_PORT: u8 = 61;
-
-const UNSET_OPERAND: u8 = 62;
-
-const RESULT_CLASH: u8 = 63;
-
-const JUMP_IN_DELAY: u8 = 64;
-
-const UNKNOWN_TARGET: u8 = 80;
 
 /// Whether a guard of some moves may be unwritten.
 fn any_guards(state: &AbstractState, moves: &[Option<Move>]) -> bool
@@ -93,7 +84,7 @@ pub fn code_at(state: &AbstractState, m: &Machine, i: &Instruction, pending: boo
     } else if any_ports(state, moves) {
         Some(UNSET_PORT)
     } else if any_operands(state, m, i) {
-        Some(UNSET_OPERAND)
+        Some(MISSING_OPERAND)
     } else {
         code_after(state, m, i, pending)
     }
@@ -105,9 +96,9 @@ fn code_after(state: &AbstractState, m: &Machine, i: &Instruction, pending: bool
 {
     let moves = i.moves.as_slice();
     if any_clashes(state, m, moves) {
-        Some(RESULT_CLASH)
+        Some(CLASHING_RESULTS)
     } else if any_delays(state, pending, moves) {
-        Some(JUMP_IN_DELAY)
+        Some(CONTROL_IN_DELAY)
     } else if any_unknowns(state, moves) {
         Some(UNKNOWN_TARGET)
     } else {

@@ -8,6 +8,7 @@ ghost use Rattle.tta_check.specs.Tables.{ago, place_at, Sets, Fits, FitsSome, Fi
 ghost use Rattle.tta_check.specs.Tables.{PutTo, PutSome, PutBoth, Grows};
 ghost use Rattle.tta_check.specs.Carries.{CanCarry, Carried};
 
+use crate::codes::{NO_INSTRUCTION, UNKNOWN_TARGET};
 use crate::join::join;
 use crate::measure::measure;
 use crate::point::{ProgramPoint, Under, same_point};
@@ -122,7 +123,7 @@ impl EntryTable {
     {
         if len <= successor.point.address as usize {
             return Ok(Some(Verdict::Unsafe {
-                code: 65,
+                code: NO_INSTRUCTION,
                 word: successor.point.address,
             }));
         }
@@ -151,7 +152,7 @@ impl EntryTable {
         };
         if !same_point(old.point, successor.point) {
             return Ok(Some(Verdict::Unsafe {
-                code: 80,
+                code: UNKNOWN_TARGET,
                 word: successor
                     .point
                     .address

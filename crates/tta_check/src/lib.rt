@@ -3,6 +3,7 @@
 
 mod begin;
 mod causes;
+mod codes;
 mod effects;
 mod entries;
 mod guard_value;

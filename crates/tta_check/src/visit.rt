@@ -10,6 +10,7 @@ ghost use Rattle.tta_check.specs.Transfers.{have_latency};
 ghost use Rattle.tta_check.specs.Visits.{IsWay, settled, IsActs, IsStays, Visits};
 
 use crate::causes::code_at;
+use crate::codes::UNKNOWN_TARGET;
 use crate::effects::controller;
 use crate::guard_value::GuardValue;
 use crate::jump_target::{event_of, jump_target_of};
@@ -154,7 +155,7 @@ pub fn visit(
     let control = control_of(m, i);
     let Some(word) = jump_target_of(&at.state.cells, control) else {
         return Ok(Outcome::Ends(Verdict::Unsafe {
-            code: 80,
+            code: UNKNOWN_TARGET,
             word: at.point.address,
         }));
     };

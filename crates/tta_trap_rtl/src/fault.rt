@@ -13,6 +13,10 @@ ghost use Rattle.tta_trap_rtl.specs.Texts.{case_number, case_test, case_text, fa
 use crate::findings::{Finding, push_finding_at};
 use crate::lacks::push_lack_at;
 use crate::names::start_watch;
+use crate::numbers::{
+    CLASHING_RESULTS, CONTROL_IN_DELAY, FAULT_WIDTH, MISSING_OPERAND, NO_INSTRUCTION, UNSET_PORT,
+    UNSET_REGISTER,
+};
 use crate::reads::Lack;
 use std::alloc::AllocError;
 use tta_arch::{Bus, Machine, Unit};
@@ -171,12 +175,12 @@ fn number_of(case: Case) -> u64
     ensures { result ≡ case_number case }
 {
     match case {
-        Case::Outside => 65,
-        Case::Lacks(Lack::Register) => 60,
-        Case::Lacks(Lack::Port) => 61,
-        Case::Finds(Finding::Operand) => 62,
-        Case::Finds(Finding::Clash) => 63,
-        Case::Jumps => 64,
+        Case::Outside => NO_INSTRUCTION,
+        Case::Lacks(Lack::Register) => UNSET_REGISTER,
+        Case::Lacks(Lack::Port) => UNSET_PORT,
+        Case::Finds(Finding::Operand) => MISSING_OPERAND,
+        Case::Finds(Finding::Clash) => CLASHING_RESULTS,
+        Case::Jumps => CONTROL_IN_DELAY,
     }
 }
 
@@ -188,7 +192,7 @@ fn push_case(out: &mut Vec<u8>, m: &Machine, words: usize, case: Case) -> Result
     push_text(out, b"(")?;
     push_test(out, m, words, case)?;
     push_text(out, b")?(")?;
-    push_constant(out, 7, number_of(case))?;
+    push_constant(out, FAULT_WIDTH, number_of(case))?;
     push_text(out, b"):")
 }
 
@@ -211,7 +215,7 @@ fn push_first_case(out: &mut Vec<u8>, m: &Machine, words: usize) -> Result<(), A
         (first_of (t.fault_choices m.now words) (c.Const 7 0))) }
 {
     push_cases(out, m, words)?;
-    push_constant(out, 7, 0)
+    push_constant(out, FAULT_WIDTH, 0)
 }
 
 /// Puts the number of the fault that the next cycle meets, or 0.
@@ -221,7 +225,7 @@ fn push_fault_number(out: &mut Vec<u8>, m: &Machine, words: usize) -> Result<(),
         (out.new.items ≡ out.old.items ++ text_of m.now (t.fault_now m.now words)) }
 {
     push_text(out, b"((reset)||(n_halted))?(")?;
-    push_constant(out, 7, 0)?;
+    push_constant(out, FAULT_WIDTH, 0)?;
     push_text(out, b"):")?;
     push_first_case(out, m, words)
 }

@@ -7,6 +7,7 @@ ghost use Rattle.tta_trap.specs.Pins.{is_fine};
 ghost use Rattle.tta_trap.specs.Trap.{trap_made};
 ghost use Rattle.tta_trap_rtl.specs.Texts.{goes_text};
 
+use crate::numbers::FAULT_WIDTH;
 use std::alloc::AllocError;
 use tta_arch::Machine;
 use tta_rtl::{On, push_goes_test, start_wire};
@@ -18,7 +19,7 @@ pub fn push_fine(out: &mut Vec<u8>, m: &Machine) -> Result<(), AllocError>
     ensures { OnOk result (out.new.items ≡ out.old.items ++ text_of m.now is_fine) }
 {
     push_text(out, b"(n_fault)==(")?;
-    push_constant(out, 7, 0)?;
+    push_constant(out, FAULT_WIDTH, 0)?;
     push_text(out, b")")
 }
 

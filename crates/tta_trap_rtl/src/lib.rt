@@ -7,6 +7,7 @@ mod findings;
 mod lacks;
 mod late;
 mod names;
+mod numbers;
 mod pins;
 mod reads;
 mod watching;
