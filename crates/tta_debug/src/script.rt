@@ -13,9 +13,6 @@ use crate::basis::Basis;
 use crate::say::put;
 use crate::session::Session;
 use crate::told::{CommandError, Told};
-use tta_arch::Machine;
-use tta_code::Code;
-use tta_ops::UnitSet;
 use tta_ports::{Failed, Sink};
 use tta_report::Reply;
 
@@ -51,7 +48,7 @@ pub fn take_line<S: Sink>(
     ensures cause { CountsFault (is_err result) (S.output sink.old).faults
         (S.output sink.new).faults }
 {
-    match session.command(line, basis.m, basis.code, basis.units, basis.input, sink) {
+    match session.command(line, basis, sink) {
         Ok(Told::More) => Ok(true),
         Ok(Told::Bye) => Ok(false),
         Err(CommandError::SinkFailed) => Err(Failed),
@@ -97,9 +94,13 @@ fn cut_line<'t>(bytes: &'t [u8]) -> Cut<'t>
     }
 }
 
-/// Carries out the lines of a script up to a line that is `quit` or to the script's end, and puts
-/// their replies and refusals.
-fn take_lines<S: Sink>(
+/// Carries out the lines of a script, each of which is a command and ends at a newline, and puts
+/// their replies and refusals, up to a line that is `quit` or to the script's end. The input is that
+/// of all calls of the session. It takes no memory.
+///
+/// It answers `Failed` at the first line of a reply at which the sink does, and only there: the
+/// sink's count of faults shows it. The session is then as this line found it.
+pub fn run_script<S: Sink>(
     session: &mut Session,
     script: &[u8],
     basis: &Basis<'_>,
@@ -134,46 +135,4 @@ fn take_lines<S: Sink>(
         rest = cut.rest;
     }
     Ok(())
-}
-
-/// Carries out the lines of a script, each of which is a command and ends at a newline, and puts
-/// their replies and refusals, up to a line that is `quit` or to the script's end. The input is that
-/// of all calls of the session. It takes no memory.
-///
-/// It answers `Failed` at the first line of a reply at which the sink does, and only there: the
-/// sink's count of faults shows it. The session is then as this line found it.
-pub fn run_script<S: Sink>(
-    session: &mut Session,
-    script: &[u8],
-    m: &Machine,
-    code: &Code,
-    units: &UnitSet,
-    input: &[u32],
-    sink: &mut S,
-) -> Result<(), Failed>
-    requires loaded { IsRunOf m.now code.now session.old.held }
-    requires few { session.old.held.cycle < 2 ^ 60 }
-    requires short { length script.now ≤ 2 ^ 24 }
-    ensures loaded { IsRunOf m.now code.now session.new.held }
-    ensures replies { let U = stated unit_meaning units.now in
-        (d : Debugged) → Follows input.now session.old d
-        → TakesScript input.now (session_of U m.now code.now (lines_of script.now) d) session.new
-        (S.output sink.old)
-        (S.output sink.new) result }
-    ensures stopped { let U = stated unit_meaning units.now in
-        (d : Debugged) → Follows input.now session.old d
-        → IfErr result (λ e. IsStopped input.now
-        (script_says U m.now code.now (lines_of script.now) d) session.new
-        (S.output sink.old)
-        (S.output sink.new)) }
-    ensures cause { CountsFault (is_err result) (S.output sink.old).faults
-        (S.output sink.new).faults }
-{
-    let basis = Basis {
-        m,
-        code,
-        units,
-        input,
-    };
-    take_lines(session, script, &basis, sink)
 }

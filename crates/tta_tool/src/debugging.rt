@@ -14,7 +14,7 @@ use crate::names::SessionRequest;
 use std::alloc::Global;
 use tta_code::Code;
 use tta_code_run::load_code;
-use tta_debug::{Session, run_script};
+use tta_debug::{Basis, Session, run_script};
 use tta_load::{CodePair, Status, data_words, image_pair, input_file, read_file, stream_file};
 use tta_machine::Machine;
 use tta_ops::UnitSet;
@@ -106,7 +106,13 @@ fn script_to_status<S: Sink>(
 {
     let lines = script.bytes.as_slice();
     let words = script.words.as_slice();
-    match run_script(session, lines, machine, code, units, words, sink) {
+    let basis = Basis {
+        m: machine,
+        code,
+        units,
+        input: words,
+    };
+    match run_script(session, lines, &basis, sink) {
         Ok(()) => status_of(session.sim()),
         Err(Failed) => Status::WriteFault,
     }

@@ -6,9 +6,9 @@ use Rattle.tta_debug.specs.Debugged.{Debugged, Done, command, session}
 use Rattle.tta_debug.specs.Sessions.{Follows}
 use Rattle.tta_debug.specs.Scripts.{TakesLine, lines_of, script_says}
 use Rattle.tta_debug.proofs.Folding.{taken_first, taken_on, taken_bye, taken_cut, taken_last, script_cut, no_lines, replied_first, replied_on, replied_stopped, script_stopped}
-use Rattle.tta_debug.proofs.script.take_lines.Given as given
-use Rattle.tta_debug.proofs.script.take_lines.Goals.{After-take_line}
-use Rattle.tta_debug.proofs.script.take_lines.Goals as goal
+use Rattle.tta_debug.proofs.script.run_script.Given as given
+use Rattle.tta_debug.proofs.script.run_script.Goals.{After-take_line}
+use Rattle.tta_debug.proofs.script.run_script.Goals as goal
 
 -- ---- a line
 

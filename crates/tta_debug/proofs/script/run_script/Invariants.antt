@@ -4,7 +4,7 @@ use Rattle.tta_debug.specs.Debugged.{Debugged}
 use Rattle.tta_debug.specs.Sessions.{Follows}
 use Rattle.tta_debug.specs.Scripts.{lines_of}
 use Rattle.tta_debug.proofs.Folding.{Taken, Replied}
-use Rattle.tta_debug.proofs.script.take_lines.Given as goal
+use Rattle.tta_debug.proofs.script.run_script.Given as goal
 
 abbrev pub decreases-lines : goal.decreases-lines
 decreases-lines g l = length l.rest
