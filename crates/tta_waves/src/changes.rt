@@ -7,11 +7,11 @@ ghost use Rattle.tta_waves.specs.Dump.{same_word, state_text, word_text};
 ghost use Rattle.tta_waves.specs.Steps.{outcome_of};
 ghost use Rattle.tta_code.specs.Cycle.{Fault};
 
-use crate::declare::{push_code, push_number};
+use crate::declare::push_code;
 use crate::level::{Level, same_word};
 use std::alloc::AllocError;
 use tta_sim::CycleStep;
-use tta_verilog::push_bit;
+use tta_verilog::{push_bit, push_number};
 
 /// The longest word, in bits.
 const WORD_BITS: u8 = 32;

@@ -1,24 +1,16 @@
 //! What stands before the first cycle.
 
-ghost use Rattle.std.specs.Prelude.{◌≡◌, ◌++◌, decimal, OnOk};
+ghost use Rattle.std.specs.Prelude.{◌≡◌, ◌++◌, OnOk};
 ghost use Rattle.tta_names.specs.Names.{signal_name};
 ghost use Rattle.tta_waves.specs.Dump.{code_text, declaration_text, declarations_text};
 ghost use Rattle.tta_waves.specs.Dump.{header_text};
 ghost use Rattle.tta_waves.specs.Signals.{named, signals_of};
 
 use crate::signal::{Signal, bits_of};
-use itoa::Buffer;
 use std::alloc::AllocError;
 use tta_arch::Machine;
 use tta_names::{push_immediate, push_of_bus, push_of_op, push_of_unit, push_register};
-
-/// Puts a number, in decimal.
-pub fn push_number(out: &mut Vec<u8>, n: u64) -> Result<(), AllocError>
-    ensures { OnOk result (out.new.items ≡ out.old.items ++ decimal n) }
-{
-    let mut buffer = Buffer::new();
-    out.extend_from_slice(buffer.format(n).as_bytes())
-}
+use tta_verilog::push_number;
 
 /// Puts the code of the signal with this number.
 pub fn push_code(out: &mut Vec<u8>, number: usize) -> Result<(), AllocError>
