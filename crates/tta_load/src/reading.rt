@@ -6,13 +6,13 @@ use crate::status::Status;
 use tta_ports::{Files, ReadError};
 
 /// How many bytes of a file are read at the most: 16 MiB.
-const LIMIT: u64 = 16_777_216;
+const MOST_BYTES: u64 = 16_777_216;
 
 /// The bytes of the file that a word names.
 pub fn read_file<F: Files>(files: &mut F, name: &str, word: u8) -> Result<Vec<u8>, Status>
     ensures { ReadEnds name.now word (F.world files.old) (F.world files.new) (λ v. v.items) result }
 {
-    match files.read(name, LIMIT) {
+    match files.read(name, MOST_BYTES) {
         Ok(bytes) => Ok(bytes),
         Err(ReadError::Failed) => Err(Status::ReadFault { word }),
         Err(ReadError::TooLong { .. }) => Err(Status::TooLong { word }),

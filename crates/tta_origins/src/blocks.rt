@@ -15,7 +15,7 @@ use tta_pages::fit;
 use tta_stages::{push_block as push_name, push_part_at, push_range_at};
 
 /// How many bytes are told of blocks at most.
-const ROOM: usize = 524_288;
+const MOST_BYTES: usize = 524_288;
 
 /// Where the code of each block begins, and its placement.
 #[derive(Clone, Copy)]
@@ -73,7 +73,7 @@ pub fn push_origins(
         OnOk result (out.new.items ≡ out.old.items
         ++ fitting 524288 (map (λ x. text x.0 x.1) (enumerate_from 0 parts.now))) }
 {
-    let mut room = ROOM;
+    let mut room = MOST_BYTES;
     for (k, part) in parts.iter().enumerate() {
         let from = out.len();
         push_origin(out, of, ranges, k, *part)?;

@@ -19,13 +19,13 @@ use tta_pages::{fit, keep_within};
 use tta_profile::Basis;
 
 /// How many instructions a page has at most.
-const MOST: usize = 4096;
+const MOST_INSTRUCTIONS: usize = 4096;
 
 /// How many bytes they have at most.
-const ROWS: usize = 1_048_576;
+const MOST_ROW_BYTES: usize = 1_048_576;
 
 /// How many bytes there are of the machine at most. No machine has so many.
-const KNOWN: usize = 65_536;
+const MOST_MACHINE_BYTES: usize = 65_536;
 
 /// Puts how many delay slots a jump has.
 #[tactic(auto, unfolding(crate::specs::Statement::delay_text))]
@@ -82,8 +82,8 @@ fn push_row(
 fn first_of(words: &[Instruction]) -> &[Instruction]
     ensures { result.now ≡ take 4096 words.now }
 {
-    if words.len() > MOST {
-        &words[..MOST]
+    if words.len() > MOST_INSTRUCTIONS {
+        &words[..MOST_INSTRUCTIONS]
     } else {
         words
     }
@@ -99,7 +99,7 @@ fn push_rows(
     ensures { let U = stated unit_meaning units.now in
         OnOk result (out.new.items ≡ out.old.items ++ rows_text U m.now words.now) }
 {
-    let mut room = ROWS;
+    let mut room = MOST_ROW_BYTES;
     for (address, i) in words.iter().enumerate() {
         let from = out.len();
         push_row(out, units, m, address, i)?;
@@ -156,7 +156,7 @@ pub fn push_code_part(out: &mut Vec<u8>, basis: &Basis<'_>, span: Span) -> Resul
 {
     let from = out.len();
     push_known(out, basis.m, basis.code.words.len(), span)?;
-    keep_within(out, from, KNOWN);
+    keep_within(out, from, MOST_MACHINE_BYTES);
     push_rows(
         out,
         basis.units,

@@ -11,10 +11,10 @@ use tta_pages::keep_within;
 use tta_sim::Sim;
 
 /// How many words of each space are told of what changed before a page begins.
-const MOST: usize = 4096;
+const MOST_WORDS: usize = 4096;
 
 /// How many bytes that has at most. So many words do not have more.
-const EARLIER: usize = 262_144;
+const MOST_WORD_BYTES: usize = 262_144;
 
 /// The data words and the frame words of a state.
 #[derive(Drop)]
@@ -145,8 +145,8 @@ pub fn push_changed(out: &mut Vec<u8>, spaces: &mut Spaces, sim: &Sim) -> Result
 fn first_of(words: &[u32]) -> &[u32]
     ensures { result.now ≡ take 4096 words.now }
 {
-    if words.len() > MOST {
-        &words[..MOST]
+    if words.len() > MOST_WORDS {
+        &words[..MOST_WORDS]
     } else {
         words
     }
@@ -167,6 +167,6 @@ pub fn push_earlier(out: &mut Vec<u8>, spaces: &Spaces, sim: &Sim) -> Result<(),
         first_of(sim.memory()),
         first_of(sim.frame()),
     )?;
-    keep_within(out, from, EARLIER);
+    keep_within(out, from, MOST_WORD_BYTES);
     Ok(())
 }

@@ -21,7 +21,7 @@ use tta_profile::Basis;
 use tta_sim::Sim;
 
 /// How many cycles a page plays at most, so that it stays small.
-const LIMIT: u64 = 400;
+const MOST_CYCLES: u64 = 400;
 
 /// How many bytes stand before the end of a page at most, so that it has no more than 8 MiB.
 const STATES_END: usize = 8_323_072;
@@ -31,7 +31,7 @@ fn limited(bound: u64) -> u64
     ensures is { result ≡ limited bound }
     ensures within { result ≤ bound }
 {
-    if bound < LIMIT { bound } else { LIMIT }
+    if bound < MOST_CYCLES { bound } else { MOST_CYCLES }
 }
 
 /// How many bytes a page tells of the stages of a program at most, so that it stays small.

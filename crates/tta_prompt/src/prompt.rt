@@ -15,7 +15,7 @@ use tta_ports::Sink;
 use tta_stdin::{LineError, Lines};
 
 /// How many bytes all lines together may have, each with its newline: 16 MiB.
-const LIMIT: u64 = 16_777_216;
+const MOST_BYTES: u64 = 16_777_216;
 
 /// Carries out the lines that come, each of which is a command, and puts the reply or the refusal of
 /// each before the next one is asked for, up to a line that is `quit` or to the end of the lines. The
@@ -41,7 +41,7 @@ pub fn run_prompt<L: Lines, S: Sink>(
         → Prompts U on.m.now on.code.now on.input.now d session.new
         (L.come lines.old) (L.come lines.new) (S.output sink.old) (S.output sink.new) result }
 {
-    let mut left = LIMIT;
+    let mut left = MOST_BYTES;
     'lines: loop {
         let line = match lines.next_line(left) {
             Ok(Some(line)) => line,

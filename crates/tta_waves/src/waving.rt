@@ -15,14 +15,14 @@ use tta_profile::Basis;
 use tta_sim::Sim;
 
 /// How many cycles a dump has at most.
-const LIMIT: u64 = 65_536;
+const MOST_CYCLES: u64 = 65_536;
 
 /// How many cycles a dump has where so many are asked for.
 fn limited(bound: u64) -> u64
     ensures is { result ≡ limited bound }
     ensures within { result ≤ bound }
 {
-    if bound < LIMIT { bound } else { LIMIT }
+    if bound < MOST_CYCLES { bound } else { MOST_CYCLES }
 }
 
 /// Carries out at most so many cycles of a run from its start, and gives the dump of them, in the form

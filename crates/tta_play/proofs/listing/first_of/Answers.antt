@@ -4,12 +4,12 @@ use Rattle.tta_play.proofs.listing.first_of.Goals as goal
 
 pub slice_bounds-result-end : goal.slice_bounds-result-end
 slice_bounds-result-end c =
-    let more = c.if-words-gt-MOST.true in
+    let more = c.if-words-gt-MOST_INSTRUCTIONS.true in
     let enough : 4096 ≤ length c.args.words.now = omega (arith, more) in
     sym (length-take-le 4096 c.args.words.now enough)
 
-pub returns-else-words-gt-MOST : goal.returns-else-words-gt-MOST
-returns-else-words-gt-MOST c =
-    let few = c.if-words-gt-MOST.false in
+pub returns-else-words-gt-MOST_INSTRUCTIONS : goal.returns-else-words-gt-MOST_INSTRUCTIONS
+returns-else-words-gt-MOST_INSTRUCTIONS c =
+    let few = c.if-words-gt-MOST_INSTRUCTIONS.false in
     let all : length c.args.words.now ≤ 4096 = omega (arith, few) in
     sym (take_all 4096 c.args.words.now all)
