@@ -49,7 +49,7 @@ fn push_divider(
     }
 }
 
-/// Puts those of these operations.
+/// Puts the modules that these operations are left to, where they divide.
 pub fn push_dividers(
     alloc: Global,
     out: &mut Vec<u8>,

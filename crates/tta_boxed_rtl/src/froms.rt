@@ -68,7 +68,7 @@ fn push_left(out: &mut Vec<u8>, at: &At<'_>, declares: bool, l: Left) -> Result<
     push_delays(out, at, declares, l, 1, l.o.latency.saturating_sub(1))
 }
 
-/// Puts those of these operations.
+/// Puts the registers that tell of these operations whose result is due, for each delay.
 pub fn push_froms(
     out: &mut Vec<u8>,
     at: &At<'_>,

@@ -132,7 +132,8 @@ fn push_from_next(out: &mut Vec<u8>, at: &At<'_>, l: Left, delay: u8) -> Result<
     push_was(out, at, l, delay + 1)
 }
 
-/// Puts the same at the next clock, which may begin anew.
+/// Puts whether what is due in so many cycles is the operation's at the next clock, which may begin
+/// anew.
 #[tactic(auto, unfolding(tta_verilog::specs::Expressions::choice))]
 pub fn push_from_becomes(
     out: &mut Vec<u8>,

@@ -81,7 +81,7 @@ pub fn one_liveness()
     ensures { OneLiveness }
 {}
 
-/// The same of its variables have their slots, for as many home registers.
+/// The same variables of a program have slots, whichever way as many home registers are given.
 pub fn one_slots()
     ensures { OneSlots }
 {}

@@ -94,7 +94,7 @@ pub fn bus_word(on: &On<'_>, bus: usize, f: &BusFields) -> Cost
     Cost::choice(32, tag_line(on, bus), short_line(on, bus), picked)
 }
 
-/// The same where it is read.
+/// The word of a bus, where it is read.
 #[tactic(auto, using(crate::proofs::Depths::line_is))]
 pub fn word_line(on: &On<'_>, bus: usize, f: &BusFields) -> Cost
     requires { f.now ≡ fields_of on.now.m.now bus }
@@ -156,7 +156,7 @@ pub fn bus_acts(on: &On<'_>, bus: usize, f: &BusFields) -> Cost
     Cost::choice(1, test, Cost::free(), guards)
 }
 
-/// The same where it is read.
+/// Whether the move of a bus acts, if there is one, where it is read.
 #[tactic(auto, using(crate::proofs::Depths::line_is))]
 pub fn acts_line(on: &On<'_>, bus: usize, f: &BusFields) -> Cost
     requires { f.now ≡ fields_of on.now.m.now bus }

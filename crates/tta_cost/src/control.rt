@@ -35,7 +35,7 @@ pub fn controls(on: &On<'_>) -> Cost
     reached(on, Dest::Jump).gate(more)
 }
 
-/// The same where it is read.
+/// Whether a control move acts, where it is read.
 #[tactic(auto, using(crate::proofs::Depths::line_is))]
 pub fn controls_line(on: &On<'_>) -> Cost
     ensures { let T = on.now.applied.now in let M = on.now.m.now in
@@ -54,7 +54,7 @@ pub fn goal_now(on: &On<'_>) -> Cost
     arrivals(on, Dest::Jump, false, calls)
 }
 
-/// The same where it is read.
+/// The address to which a control move leads, where it is read.
 #[tactic(auto, using(crate::proofs::Depths::line_is))]
 pub fn goal_line(on: &On<'_>) -> Cost
     ensures { let T = on.now.applied.now in let M = on.now.m.now in
@@ -81,7 +81,7 @@ pub fn ends_now(on: &On<'_>) -> Cost
     Cost::choice(1, controls_line(on), reached(on, Dest::Halt), ends_kept(on))
 }
 
-/// The same where it is read.
+/// Whether a control move halts, where it is read.
 #[tactic(auto, using(crate::proofs::Depths::line_is))]
 pub fn ends_line(on: &On<'_>) -> Cost
     ensures { let T = on.now.applied.now in let M = on.now.m.now in
@@ -104,7 +104,7 @@ pub fn lands(on: &On<'_>) -> Cost
     }
 }
 
-/// The same where it is read.
+/// Whether a control move takes effect at this clock, where it is read.
 #[tactic(auto, using(crate::proofs::Depths::line_is))]
 pub fn lands_line(on: &On<'_>) -> Cost
     ensures { let T = on.now.applied.now in let M = on.now.m.now in
@@ -158,7 +158,7 @@ pub fn goes(of: &Streams<'_>) -> Cost
     Cost::free().gate(Cost::free().gate(taken.gate(given)))
 }
 
-/// The same where it is read.
+/// Whether this clock carries the instruction out, where it is read.
 #[tactic(auto, using(crate::proofs::Depths::line_is))]
 pub fn goes_line(of: &Streams<'_>) -> Cost
     ensures { let T = of.now.on.now.applied.now in let M = of.now.on.now.m.now in
@@ -179,7 +179,7 @@ fn after(on: &On<'_>) -> Cost
     Cost::choice(u64::from(m.control.address), leads, goal_line(on), follows)
 }
 
-/// The same, and 0 where the circuit begins anew.
+/// The address of the next instruction, which is 0 where the circuit begins anew.
 #[tactic(auto, using(crate::proofs::Depths::known))]
 pub fn next_pc(on: &On<'_>) -> Cost
     ensures { let T = on.now.applied.now in let M = on.now.m.now in
@@ -190,7 +190,7 @@ pub fn next_pc(on: &On<'_>) -> Cost
     Cost::choice(width, Cost::free(), Cost::free(), after(on))
 }
 
-/// The same where it is read.
+/// The address of the next instruction, where it is read.
 #[tactic(auto, using(crate::proofs::Depths::line_is))]
 pub fn next_line(on: &On<'_>) -> Cost
     ensures { let T = on.now.applied.now in let M = on.now.m.now in

@@ -88,7 +88,7 @@ pub fn dest(on: &On<'_>, bus: usize, f: &BusFields) -> Cost
     Cost::choice(width, takes, Cost::free(), Cost::free())
 }
 
-/// The same where it is read.
+/// The code of the destination of a bus, where it is read.
 #[tactic(auto, using(crate::proofs::Depths::line_is))]
 pub fn dest_line(on: &On<'_>, bus: usize, f: &BusFields) -> Cost
     requires { f.now ≡ fields_of on.now.m.now bus }
@@ -121,7 +121,7 @@ pub fn short(on: &On<'_>, bus: usize) -> Cost
     }
 }
 
-/// The same where it is read.
+/// The word of the short field of a bus, where it is read.
 #[tactic(auto, using(crate::proofs::Depths::line_is))]
 pub fn short_line(on: &On<'_>, bus: usize) -> Cost
     ensures { let T = on.now.applied.now in let M = on.now.m.now in
@@ -157,7 +157,7 @@ pub fn long(on: &On<'_>) -> Cost
     long_from(on, 0, m.templates.as_slice())
 }
 
-/// The same where it is read.
+/// The long immediate, where it is read.
 #[tactic(auto, using(crate::proofs::Depths::line_is))]
 pub fn long_line(on: &On<'_>) -> Cost
     ensures { let T = on.now.applied.now in let M = on.now.m.now in

@@ -227,7 +227,7 @@ fn underway(on: &On<'_>, delay: u8) -> Cost
     }
 }
 
-/// The same from now on.
+/// Whether a control move takes effect in so many cycles, from now on.
 pub fn underway_next(on: &On<'_>, delay: u8) -> Cost
     requires later { delay < 255 }
     ensures { let T = on.now.applied.now in let M = on.now.m.now in

@@ -96,7 +96,7 @@ pub fn port(on: &On<'_>, unit: u8) -> Cost
     fresh(on, unit, 1, Cost::free())
 }
 
-/// The same where it is read.
+/// The word that the result port of a unit shows, where it is read.
 #[tactic(auto, using(crate::proofs::Depths::line_is))]
 pub fn port_line(on: &On<'_>, unit: u8) -> Cost
     ensures { let T = on.now.applied.now in let M = on.now.m.now in

@@ -23,7 +23,7 @@ pub fn start(on: &On<'_>, unit: u8, op: u8) -> Cost
     reached(on, Dest::Trigger { unit, op })
 }
 
-/// The same where it is read.
+/// Whether an operation of a unit starts, where it is read.
 #[tactic(auto, using(crate::proofs::Depths::line_is))]
 pub fn start_line(on: &On<'_>, unit: u8, op: u8) -> Cost
     ensures { let T = on.now.applied.now in let M = on.now.m.now in
@@ -58,7 +58,7 @@ pub fn trigger(on: &On<'_>, unit: u8) -> Cost
     triggers_from(on, unit, 0, ops_at(on.m, unit), Cost::free())
 }
 
-/// The same where it is read.
+/// The word that starts an operation of a unit, where it is read.
 #[tactic(auto, using(crate::proofs::Depths::line_is))]
 pub fn trigger_line(on: &On<'_>, unit: u8) -> Cost
     ensures { let T = on.now.applied.now in let M = on.now.m.now in
@@ -76,7 +76,7 @@ pub fn operand(on: &On<'_>, unit: u8) -> Cost
     arrivals(on, Dest::Operand { unit }, false, Cost::free())
 }
 
-/// The same where it is read.
+/// The word in a unit's operand port once this cycle's moves are made, where it is read.
 #[tactic(auto, using(crate::proofs::Depths::line_is))]
 pub fn operand_line(on: &On<'_>, unit: u8) -> Cost
     ensures { let T = on.now.applied.now in let M = on.now.m.now in

@@ -19,7 +19,7 @@ fn light_class(n: u8) -> &'static [u8]
     }
 }
 
-/// The same where nothing is written on it.
+/// The class of one of the six colours where nothing is written on it.
 pub fn dark_class(n: u8) -> &'static [u8]
     ensures { result.now ≡ dark_class n }
 {

@@ -92,7 +92,7 @@ pub fn files_x(m: &Machine) -> u64
     lines_x(m) + 16
 }
 
-/// The same of the first immediate unit.
+/// How far to the right the first immediate unit begins.
 pub fn imms_x(m: &Machine) -> u64
     ensures all { result ≡ imms_x m.now }
     ensures few { result ≤ 200000 }
@@ -100,7 +100,7 @@ pub fn imms_x(m: &Machine) -> u64
     after_files(m, files_x(m), m.files.as_slice())
 }
 
-/// The same of the first template.
+/// How far to the right the first template begins.
 pub fn templates_x(m: &Machine) -> u64
     ensures all { result ≡ templates_x m.now }
     ensures few { result ≤ 300000 }
@@ -108,7 +108,7 @@ pub fn templates_x(m: &Machine) -> u64
     after_imms(m, imms_x(m), m.imms.as_slice())
 }
 
-/// The same of the first unit.
+/// How far to the right the first unit begins.
 pub fn units_x(m: &Machine) -> u64
     ensures all { result ≡ units_x m.now }
     ensures few { result ≤ 500000 }
@@ -116,7 +116,7 @@ pub fn units_x(m: &Machine) -> u64
     after_templates(m, templates_x(m), m.templates.as_slice())
 }
 
-/// The same of control.
+/// How far to the right control begins.
 pub fn control_x(units: &UnitSet, m: &Machine) -> u64
     ensures all { result ≡ control_x (stated unit_meaning units.now) m.now }
     ensures few { result ≤ 1200000 }

@@ -24,7 +24,7 @@ pub fn port_width(m: &Machine, socket: u8) -> u64
     }
 }
 
-/// The same for a port that a part may lack.
+/// How much room a port takes that a part may lack, by its socket.
 pub fn port_width_if(m: &Machine, socket: Option<u8>) -> u64
     ensures all { result ≡ port_width_if m.now socket }
     ensures few { result ≤ 7008 }
@@ -133,7 +133,7 @@ pub fn after_files(m: &Machine, left: u64, files: &[File]) -> u64
     next
 }
 
-/// The same after immediate units.
+/// How far to the right the next part begins after immediate units, the first of which begins so.
 pub fn after_imms(m: &Machine, left: u64, imms: &[ImmUnit]) -> u64
     requires left { left ≤ 2000000 }
     requires few { length imms.now ≤ 64 }
@@ -147,7 +147,7 @@ pub fn after_imms(m: &Machine, left: u64, imms: &[ImmUnit]) -> u64
     next
 }
 
-/// The same after templates.
+/// How far to the right the next part begins after templates, the first of which begins so.
 pub fn after_templates(m: &Machine, left: u64, templates: &[Template]) -> u64
     requires left { left ≤ 2000000 }
     requires few { length templates.now ≤ 64 }
@@ -161,7 +161,7 @@ pub fn after_templates(m: &Machine, left: u64, templates: &[Template]) -> u64
     next
 }
 
-/// The same after units.
+/// How far to the right the next part begins after units, the first of which begins so.
 pub fn after_units(set: &UnitSet, m: &Machine, left: u64, units: &[Unit]) -> u64
     requires left { left ≤ 2000000 }
     requires few { length units.now ≤ 64 }

@@ -85,7 +85,8 @@ pub fn sample_completes()
     ensures { SampleCompletes }
 {}
 
-/// The same of a pair that is accepted, whatever its room: beside these, only its code may be too long.
+/// `sample` completes for a pair that is accepted, whatever its room: beside its other ends, only
+/// its code may be too long.
 pub fn sample_completes_without_room()
     ensures { SampleCompletesWithoutRoom }
 {}
