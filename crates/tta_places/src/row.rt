@@ -7,14 +7,25 @@ ghost use Rattle.tta_sim.specs.Places.{is_place, number_of, place_count, word_at
 use std::alloc::{AllocError, Global};
 use std::marker::Model;
 
-/// Where the immediate registers stand in the row, after 64 registers of each of 8 files.
-const IMMEDIATES: usize = 8 * 64;
+/// How many files a machine has at most, and how many registers a file.
+const FILES: usize = 8;
+const REGISTERS: usize = 64;
 
-/// Where the operand ports stand, after 16 registers of each of 4 immediate units.
-const OPERANDS: usize = IMMEDIATES + 4 * 16;
+/// How many immediate units a machine has at most, and how many registers one of them.
+const IMMEDIATE_UNITS: usize = 4;
+const IMMEDIATE_REGISTERS: usize = 16;
 
-/// Where the return address stands, after the operand ports of 32 units.
-const RETURN_ADDRESS: usize = OPERANDS + 32;
+/// How many units a machine has at most.
+const UNITS: usize = 32;
+
+/// Where the immediate registers stand in the row, after those of all files.
+const IMMEDIATES: usize = FILES * REGISTERS;
+
+/// Where the operand ports stand, after the immediate registers.
+const OPERANDS: usize = IMMEDIATES + IMMEDIATE_UNITS * IMMEDIATE_REGISTERS;
+
+/// Where the return address stands, after the operand ports of all units.
+const RETURN_ADDRESS: usize = OPERANDS + UNITS;
 
 /// How many places there are.
 const PLACES: usize = RETURN_ADDRESS + 1;
@@ -52,7 +63,7 @@ impl Row {
         requires { IsTrue (is_place (KeptReg file index)) }
         ensures { result ≡ word_at self.now (KeptReg file index) }
     {
-        self.words[usize::from(file) * 64 + usize::from(index)]
+        self.words[usize::from(file) * REGISTERS + usize::from(index)]
     }
 
     /// The word of a register of an immediate unit.
@@ -60,7 +71,7 @@ impl Row {
         requires { IsTrue (is_place (KeptImm unit index)) }
         ensures { result ≡ word_at self.now (KeptImm unit index) }
     {
-        self.words[IMMEDIATES + usize::from(unit) * 16 + usize::from(index)]
+        self.words[IMMEDIATES + usize::from(unit) * IMMEDIATE_REGISTERS + usize::from(index)]
     }
 
     /// The word at the operand port of a unit.
@@ -93,7 +104,7 @@ impl Row {
         ensures { (written : Written) → HasWritten self.old written
             → HasWritten self.new ((KeptReg file index, word) ∷ written) }
     {
-        self.set(usize::from(file) * 64 + usize::from(index), word);
+        self.set(usize::from(file) * REGISTERS + usize::from(index), word);
     }
 
     /// Writes a word into a register of an immediate unit.
@@ -103,7 +114,7 @@ impl Row {
             → HasWritten self.new ((KeptImm unit index, word) ∷ written) }
     {
         self.set(
-            IMMEDIATES + usize::from(unit) * 16 + usize::from(index),
+            IMMEDIATES + usize::from(unit) * IMMEDIATE_REGISTERS + usize::from(index),
             word,
         );
     }
