@@ -1,20 +1,21 @@
 -- The circuit of code that agrees with a program does what the program does.
-use Rattle.std.proofs.Common.{◌≡◌, ℕ, zero, suc, ◌+◌, ◌*◌, ◌<◌, ◌≤◌, Bool, true, false, not, ◌&&◌, List, [], ◌∷◌, length, slice_get, refl, sym, ap, ◌∙◌, subst, arith}
-use Rattle.std.specs.Prelude.{if◌then◌else◌, nat_lt, nat_le}
+use Rattle.std.proofs.Common.{◌≡◌, ℕ, zero, suc, ◌+◌, ◌*◌, ◌<◌, ◌≤◌, Bool, true, false, not, ◌&&◌, ◌||◌, List, [], ◌∷◌, length, slice_get, refl, sym, ap, ◌∙◌, subst, arith}
+use Rattle.std.specs.Prelude.{if◌then◌else◌, nat_lt, nat_le, drop}
 use Rattle.std.proofs.lemmas.Bool.{false≢true, ltb-true, ltb-false, leb-true, leb-false}
 use Rattle.std.proofs.lemmas.Option.{none-some}
-use Rattle.tta_realised.specs.Cited.{IsPrefixOf, over, Units, Machine, IsMachine, Program, step_count, Code, Whole, data_in, IsLegalWhole, State, Outcome, Running, Halted, Waiting, Fault, next, start, IsGiven, WaitAlike, AgreesAt, program_at, code_at, Circuit, bit, is_set, Store, HasHalted, IsOffered, Offer, IsReady, IsReset, Gives, Goes, Puts, PutWord, code_words, is_halted, is_fault, held_at, signals_at, cycles_at, put_at, AreClocks, IsStill, ShowsRun}
+use Rattle.tta_realised.specs.Cited.{IsPrefixOf, over, Units, Machine, IsMachine, Program, step_count, Code, Whole, data_in, IsLegalWhole, State, Outcome, Running, Halted, Waiting, Fault, next, start, IsGiven, WaitAlike, AgreesAt, program_at, code_at, Circuit, bit, is_set, Store, HasHalted, IsOffered, Offer, IsReady, IsReset, Asks, Gives, Goes, Puts, PutWord, code_words, is_halted, is_fault, held_at, signals_at, cycles_at, taken_at, put_at, AreClocks, IsStill, ShowsRun}
 use Rattle.tta_list.proofs.Prefixes.{prefix_chain}
 use Rattle.tta_list.proofs.Sets.{over-length}
 use Rattle.tta_list.proofs.Iterated.{iterate-later}
 use Rattle.tta_program.specs.Sequential as program
 use Rattle.tta_hardware.specs.Signals.{Signal as Named}
+use Rattle.tta_hardware.specs.Theorem.{is_waiting}
 use Rattle.tta_hardware.proofs.Circuits.{reset_is, goes_not}
 use Rattle.tta_hardware.proofs.Running.{stands_still}
 use Rattle.tta_hardware.proofs.Pins.{goes_by, goes_is}
 use Rattle.tta_hardware.proofs.Imaging.{shows_run}
 use Rattle.tta_hardware.proofs.Imaged.{image_kept}
-use Rattle.tta_realised.specs.Realised.{circuit_on, HasHaltedBy, HaltsAs, AsksInVain, WaitsAs, DoesAs}
+use Rattle.tta_realised.specs.Realised.{circuit_on, HasHaltedBy, HaltsAs, AsksInVain, WaitsAs, is_untaken, IsHeldUp, DoesAs}
 use Rattle.tta_realised.specs.Laws.{CircuitDoes, ImageDoes, BuiltDoes}
 
 -- ---- outcomes
@@ -29,6 +30,17 @@ halted_is (Fault number at) h = absurd (false≢true h)
 rests : (u : Units) (m : Machine) (code : Code) (s : State) → s.outcome ≡ Halted → next u m code s ≡ s
 unfolding next
 rests u m code s is = rw is refl
+
+-- so is one that waits
+stays : (u : Units) (m : Machine) (code : Code) (s : State) → s.outcome ≡ Waiting → next u m code s ≡ s
+unfolding next
+stays u m code s is = rw is refl
+
+-- a circuit that runs, and is held up by no word of its own, asks
+asked : (halted asks offered untaken : Bool) → halted ≡ false → untaken ≡ false → (halted || (asks && not offered || untaken)) ≡ true → asks ≡ true
+asked true asks offered untaken runs taken held = absurd (false≢true (sym runs))
+asked false true offered untaken runs taken held = refl
+asked false false offered untaken runs taken held = absurd (false≢true (sym taken ∙ held))
 
 -- ---- the circuit
 
@@ -182,14 +194,62 @@ module _ (u : Units) (m : Machine) (p : Program) (rate : ℕ) (whole : Whole) (m
         alike : WaitAlike (program_at u p memory input (rate * (suc (made t) + 1))) (code (suc (made t)))
         alike = agrees.waits_only memory input (suc (made t)) given (ap (λ (s : State). s.outcome) waiting)
 
+  -- ---- standing still
+
+  held_up : (t : ℕ) → last < t → is_set (signals_at u c powers inputs t Goes) ≡ false → IsHeldUp u c input powers inputs t
+  held_up t less none =
+      ap (λ (b : Bool). b || (is_set (signals_at u c powers inputs t Asks) && not (is_set (signals_at u c powers inputs t IsOffered))
+      || is_untaken u c input powers inputs t)) (shows t less).halted
+      ∙ (stands_still u m whole.code (over (data_in whole) memory) input powers inputs rules legal.code sized fine last clocks t less none).why
+
+  stops_before : (t n : ℕ) → last < t → (program_at u p memory input n).outcome ≡ program.Waiting → made t < length whole.code.words * (n + 1)
+  stops_before t n less waiting = by (nat_lt (made t) size) refl where
+    size : ℕ
+    size = length whole.code.words * (n + 1)
+
+    by : (b : Bool) → nat_lt (made t) size ≡ b → made t < size
+    by true is = ltb-true (made t) size is
+    by false is =
+        let alike = agrees.waits memory input n given waiting in
+        let same = iterate-later (next u m whole.code) size (made t) (start m (over (data_in whole) memory) input) (ltb-false (made t) size is)
+        (stays u m whole.code (code size) alike.code) in
+        absurd (false≢true (sym (shows t less).goes_on ∙ ap (λ (s : State). is_waiting s.outcome) same ∙ ap is_waiting alike.code))
+
+  asks_then : (t n : ℕ) → last < t → (program_at u p memory input n).outcome ≡ program.Waiting
+      → is_set (signals_at u c powers inputs t Goes) ≡ false → is_untaken u c input powers inputs t ≡ false
+      → drop (taken_at u c powers inputs t) input ≡ [] → AsksInVain u c input powers inputs t
+  asks_then t n less waiting none taken all = record {
+    runs = runs;
+    asks = asked _ _ _ _ runs taken (held_up t less none);
+    none = all;
+  } where
+      size : ℕ
+      size = length whole.code.words * (n + 1)
+
+      by : (b : Bool) → is_set ((held_at u c powers inputs t).words HasHalted) ≡ b → is_set ((held_at u c powers inputs t).words HasHalted) ≡ false
+      by true is =
+          let before = stops_before t n less waiting in
+          let halted = halted_is (code (made t)).outcome (sym (shows t less).halted ∙ is) in
+          let same = iterate-later (next u m whole.code) (made t) size (start m (over (data_in whole) memory) input) (omega (arith, before))
+          (rests u m whole.code (code (made t)) halted) in
+          let alike = agrees.waits memory input n given waiting in
+          absurd (false≢true (sym (ap is_halted alike.code) ∙ ap (λ (s : State). is_halted s.outcome) same ∙ ap is_halted halted))
+      by false is = is
+
+      runs : is_set ((held_at u c powers inputs t).words HasHalted) ≡ false
+      runs = by (is_set ((held_at u c powers inputs t).words HasHalted)) refl
+
   pub does : (t : ℕ) → last < t → DoesAs u c input powers inputs p memory rate (length whole.code.words) t
   does t less = record {
+    goes = held_up t less;
     output = subst (λ (l : List ℕ). IsPrefixOf l (program_at u p memory input (rate * (made t + 1))).output) (sym (shows t less).output)
         (agrees.output_only memory input (made t) given);
     reaches = λ n enough. reaches t n less enough;
     halted = halted_as t less;
     halts = λ n is enough. halts_too t n less is enough;
     waits = waits_as t less;
+    stops = λ n is. stops_before t n less is;
+    asks = λ n is none taken all. asks_then t n less is none taken all;
   }
 
 pub circuit_does : CircuitDoes

@@ -16,3 +16,4 @@ pub mod Here
 pub mod Parts
 pub mod OneTexts
 pub mod PrintedTexts
+pub mod PrintedPins

@@ -1,6 +1,7 @@
 //! Laws of texts of machines. A law is a function that does nothing, and whose contract is the law.
 
 ghost use Rattle.tta_told.specs.Laws.{OneBoxedText, OneText, OneTrapText};
+ghost use Rattle.tta_told.specs.Pins.{PrintedPins};
 ghost use Rattle.tta_told.specs.Printed.{PrintedBoxedText, PrintedText};
 
 /// The text of a machine with its code is that of at most one circuit.
@@ -26,4 +27,9 @@ pub fn printed_text()
 /// What it prints of one that leaves operations to modules is such a text.
 pub fn printed_boxed_text()
     ensures { PrintedBoxedText }
+{}
+
+/// The ports of a printed module show the pins of its circuit, of which the laws of its runs speak.
+pub fn printed_pins()
+    ensures { PrintedPins }
 {}
