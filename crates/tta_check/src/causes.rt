@@ -7,7 +7,7 @@ ghost use Rattle.tta_check.specs.Causes.{clash, delayed, unknown};
 ghost use Rattle.tta_check.specs.States.{tells};
 ghost use Rattle.tta_check.specs.Codes.{in_slots, code_in, last_code_in};
 
-use crate::codes::{
+use crate::fault_numbers::{
     CLASHING_RESULTS, CONTROL_IN_DELAY, MISSING_OPERAND, UNKNOWN_TARGET, UNSET_PORT, UNSET_REGISTER,
 };
 use crate::slot_causes::{

@@ -8,7 +8,7 @@ ghost use Rattle.tta_check.specs.Tables.{ago, place_at, Sets, Fits, FitsSome, Fi
 ghost use Rattle.tta_check.specs.Tables.{PutTo, PutSome, PutBoth, Grows};
 ghost use Rattle.tta_check.specs.Carries.{CanCarry, Carried};
 
-use crate::codes::{NO_INSTRUCTION, UNKNOWN_TARGET};
+use crate::fault_numbers::{NO_INSTRUCTION, UNKNOWN_TARGET};
 use crate::join::join;
 use crate::measure::measure;
 use crate::point::{ProgramPoint, Under, same_point};

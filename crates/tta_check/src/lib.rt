@@ -3,9 +3,9 @@
 
 mod begin;
 mod causes;
-mod codes;
 mod effects;
 mod entries;
+mod fault_numbers;
 mod guard_value;
 mod join;
 mod jump_target;

@@ -10,8 +10,8 @@ ghost use Rattle.tta_check.specs.Transfers.{have_latency};
 ghost use Rattle.tta_check.specs.Visits.{IsWay, settled, IsActs, IsStays, Visits};
 
 use crate::causes::code_at;
-use crate::codes::UNKNOWN_TARGET;
 use crate::effects::controller;
+use crate::fault_numbers::UNKNOWN_TARGET;
 use crate::guard_value::GuardValue;
 use crate::jump_target::{event_of, jump_target_of};
 use crate::point::{Event, ProgramPoint, point_after, under_after};

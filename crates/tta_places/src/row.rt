@@ -9,10 +9,12 @@ use std::marker::Model;
 
 /// How many files a machine has at most, and how many registers a file.
 const FILES: usize = 8;
+
 const REGISTERS: usize = 64;
 
 /// How many immediate units a machine has at most, and how many registers one of them.
 const IMMEDIATE_UNITS: usize = 4;
+
 const IMMEDIATE_REGISTERS: usize = 16;
 
 /// How many units a machine has at most.

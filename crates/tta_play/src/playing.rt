@@ -31,7 +31,11 @@ fn limited(bound: u64) -> u64
     ensures is { result ≡ limited bound }
     ensures within { result ≤ bound }
 {
-    if bound < MOST_CYCLES { bound } else { MOST_CYCLES }
+    if bound < MOST_CYCLES {
+        bound
+    } else {
+        MOST_CYCLES
+    }
 }
 
 /// How many bytes a page tells of the stages of a program at most, so that it stays small.

@@ -223,21 +223,21 @@ module _ (u : Units) (m : Machine) (p : Program) (rate : ℕ) (whole : Whole) (m
     asks = asked _ _ _ _ runs taken (held_up t less none);
     none = all;
   } where
-      size : ℕ
-      size = length whole.code.words * (n + 1)
+    size : ℕ
+    size = length whole.code.words * (n + 1)
 
-      by : (b : Bool) → is_set ((held_at u c powers inputs t).words HasHalted) ≡ b → is_set ((held_at u c powers inputs t).words HasHalted) ≡ false
-      by true is =
-          let before = stops_before t n less waiting in
-          let halted = halted_is (code (made t)).outcome (sym (shows t less).halted ∙ is) in
-          let same = iterate-later (next u m whole.code) (made t) size (start m (over (data_in whole) memory) input) (omega (arith, before))
-          (rests u m whole.code (code (made t)) halted) in
-          let alike = agrees.waits memory input n given waiting in
-          absurd (false≢true (sym (ap is_halted alike.code) ∙ ap (λ (s : State). is_halted s.outcome) same ∙ ap is_halted halted))
-      by false is = is
+    by : (b : Bool) → is_set ((held_at u c powers inputs t).words HasHalted) ≡ b → is_set ((held_at u c powers inputs t).words HasHalted) ≡ false
+    by true is =
+        let before = stops_before t n less waiting in
+        let halted = halted_is (code (made t)).outcome (sym (shows t less).halted ∙ is) in
+        let same = iterate-later (next u m whole.code) (made t) size (start m (over (data_in whole) memory) input) (omega (arith, before))
+        (rests u m whole.code (code (made t)) halted) in
+        let alike = agrees.waits memory input n given waiting in
+        absurd (false≢true (sym (ap is_halted alike.code) ∙ ap (λ (s : State). is_halted s.outcome) same ∙ ap is_halted halted))
+    by false is = is
 
-      runs : is_set ((held_at u c powers inputs t).words HasHalted) ≡ false
-      runs = by (is_set ((held_at u c powers inputs t).words HasHalted)) refl
+    runs : is_set ((held_at u c powers inputs t).words HasHalted) ≡ false
+    runs = by (is_set ((held_at u c powers inputs t).words HasHalted)) refl
 
   pub does : (t : ℕ) → last < t → DoesAs u c input powers inputs p memory rate (length whole.code.words) t
   does t less = record {

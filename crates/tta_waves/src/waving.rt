@@ -22,7 +22,11 @@ fn limited(bound: u64) -> u64
     ensures is { result ≡ limited bound }
     ensures within { result ≤ bound }
 {
-    if bound < MOST_CYCLES { bound } else { MOST_CYCLES }
+    if bound < MOST_CYCLES {
+        bound
+    } else {
+        MOST_CYCLES
+    }
 }
 
 /// Carries out at most so many cycles of a run from its start, and gives the dump of them, in the form
