@@ -44,6 +44,14 @@ pending_same m s now before acting acting' cycle same controls = ap (pending_wit
       let p : ℕ → Option Underway = λ time. Some (record { time = time; kind = c.0; word = c.1 }) in
       ap p (ap (λ n. n + m.control.delay) cycle)
 
+-- a state goes on to the same where address, control move and phase are the same
+pub lands_same : (t : State) (now : ℕ) {pc pc' : ℕ} {p p' : Option Underway} {f f' : Phase} → pc ≡ pc' → p ≡ p' → f ≡ f'
+    → lands (record t { pc = pc + 1; pending = p; outcome = outcome_of now f }) p ≡ lands (record t { pc = pc' + 1; pending = p'; outcome = outcome_of now f' }) p'
+lands_same t now {pc' = pc'} {p = p} {p' = p'} {f = f} pc_is pending phase =
+    ap (λ n. lands (record t { pc = n + 1; pending = p; outcome = outcome_of now f }) p) pc_is
+    ∙ ap (λ o. lands (record t { pc = pc' + 1; pending = o; outcome = outcome_of now f }) o) pending
+    ∙ ap (λ x. lands (record t { pc = pc' + 1; pending = p'; outcome = outcome_of now x }) p') phase
+
 lands_runs : (s : State) (p : Option Underway) → s.outcome ≡ Running → is_fault (lands s p).outcome ≡ false
 lands_runs s None running = ap is_fault running
 lands_runs s (Some p) running = elim (p.time == s.cycle) as (λ b. is_fault (if b then takes_effect s p else s).outcome ≡ false) [ true ↦ takes p.kind | false ↦ ap is_fault running ] where

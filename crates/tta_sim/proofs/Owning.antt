@@ -8,6 +8,9 @@ use Rattle.tta_list.proofs.Lists.{list_all_one}
 use Rattle.tta_arch.specs.declared.parts.Unit.{Unit as OpUnit}
 use Rattle.tta_sim.specs.Cited.{UnitOp, Op, Ldw, Stw, Ldf, Stf, Out, Take, Set, Machine, IsMachine, is_unit, is_unit_op, fits_kind, op_at, StandsFor, Rings, shown_in, due_in, longest_of, Code, State, port, latest, due_at}
 use Rattle.tta_sim.specs.declared.results.Part.{Part}
+use Rattle.tta_sim.specs.declared.stretch.Pace.{Pace}
+use Rattle.tta_sim.specs.declared.stretch.Pace.TheVariants as pace
+use Rattle.tta_sim.specs.Controls.{cycles_in}
 use Rattle.tta_sim.specs.Results.{AreResultsOf, AreThere, AreKept, HasUnits, results_at, units_of}
 use Rattle.tta_sim.proofs.Agreeing.{port_is}
 use Rattle.tta_sim.specs.Ready.{KeepsOthers}
@@ -19,6 +22,16 @@ use Rattle.tta_sim.specs.Held.{Held, HeldState, rings_held, held_with, StandsWit
 
 pub units_there : (part : Part) (m : Machine) (rings : Rings) → HasUnits part.base m rings → part.count ≡ length m.units → AreThere (results_at part rings)
 units_there part m rings has count = record { few = omega (arith, has.few, count); there = omega (arith, has.there, count) }
+
+-- one cycle at most is made with a line
+pub one_at_most : (p : Pace) → cycles_in p ≤ 1
+one_at_most pace.Goes = omega arith
+one_at_most pace.Ends = omega arith
+one_at_most pace.Stays = omega arith
+
+-- a region that is kept twice is kept
+pub kept_on : (old between new : Rings) → AreKept old between → AreKept between new → AreKept old new
+kept_on old between new first then = record { units = then.units ∙ first.units; longest = λ unit. then.longest unit ∙ first.longest unit }
 
 pub units_still : (base : ℕ) (m : Machine) (old new : Rings) → HasUnits base m old → AreKept old new → HasUnits base m new
 units_still base m old new has kept = record {

@@ -29,6 +29,10 @@ held_of lines store control = record {
   outcome = outcome_of store.cycle control.phase;
 }
 
+-- the same where control is this
+abbrev pub steered : HeldState → Control → HeldState
+steered h control = record h { pc = control.pc; pending = option_map underway control.pending; outcome = outcome_of h.cycle control.phase }
+
 -- the answer of a cycle that took a state to the next
 abbrev pub Answers : (s next : State) → CycleStep → Type 0
 Answers s next (Ran word took) =

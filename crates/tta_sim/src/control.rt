@@ -56,6 +56,7 @@ impl Control {
     }
 
     /// A control move takes effect.
+    #[inline(always)]
     fn take_effect(&mut self, p: Pending)
         ensures { (s : State)
             → controlled s self.new ≡ takes_effect (controlled s self.old) (underway p) }
@@ -68,7 +69,8 @@ impl Control {
     }
 
     /// The control move under way takes effect where its time has come.
-    fn land(&mut self, now: u64)
+    #[inline(always)]
+    pub fn land(&mut self, now: u64)
         ensures { (s : State) → s.cycle ≡ now → let p = option_map underway self.old.pending in
             controlled s self.new ≡ lands (controlled s self.old) p }
     {

@@ -1,38 +1,44 @@
 //! Lines that are carried out move by move, each on what those before it left.
 
-ghost use Rattle.std.specs.Prelude.{◌≡◌, ◌<◌, ◌||◌, [], ◌∷◌, ℕ, Option, None, true, false, not};
+ghost use Rattle.std.specs.Prelude.{◌≡◌, ◌+◌, ◌<◌, ◌≤◌, ◌^◌, ◌||◌, [], ◌∷◌, ℕ, Option, None};
+ghost use Rattle.std.specs.Prelude.{true, false, not, option_map};
 ghost use Rattle.std.specs.Prelude.{fold, length, map, is_some, option_to_list, IsTrue};
 ghost use Rattle.std.specs.List.{filter_map, list_any, AllByRecursion};
 ghost use Rattle.tta_ops.specs.Set.{stated};
 ghost use Rattle.tta_arch.specs.Effects.{store_data, store_frame};
 ghost use Rattle.tta_arch.specs.Rules.{are_different};
+ghost use Rattle.tta_arch.specs.Effects.{first_some};
 ghost use Rattle.tta_flight.specs.Rings.{HaveCome};
 ghost use Rattle.tta_sim.specs.declared.cycle_step.CycleStep.TheVariants.{Ran};
 ghost use Rattle.tta_sim.specs.Decoded.{is_nil};
 ghost use Rattle.tta_sim.specs.Results.{results_at, shown_by, AreThere};
 ghost use Rattle.tta_sim.specs.Starts.{clashes_at, clashes_with};
+ghost use Rattle.tta_sim.specs.Controls.{underway, pending_with, GoesUntil, IsStretch};
 ghost use Rattle.tta_sim.specs.Ready.{FitsLine};
 ghost use Rattle.tta_sim.specs.Kept.{kept_as, IsAtLine, IsCycle};
-ghost use Rattle.tta_sim.specs.Lines.{is_write_there, is_start_there, write_brought};
+ghost use Rattle.tta_sim.specs.Lines.{is_write_there, is_start_there, is_control_there};
+ghost use Rattle.tta_sim.specs.Lines.{write_brought, control_brought};
 ghost use Rattle.tta_sim.specs.Lines.{IsLineThere};
 ghost use Rattle.tta_sim.specs.Dues.{shown_from, started_at, CanAllBegin};
 ghost use Rattle.tta_sim.specs.Order.{is_touched, is_barred, is_in_order};
 ghost use Rattle.tta_sim.specs.Known.{is_known, is_start_known, is_settled};
-ghost use Rattle.tta_sim.specs.Flat.{reading_said, write_said, start_said, line_said};
+ghost use Rattle.tta_sim.specs.Flat.{reading_said, write_said, start_said, control_said};
+ghost use Rattle.tta_sim.specs.Flat.{line_said};
 ghost use Rattle.tta_sim.specs.InPlace.{starts_of_line, begun_here, dues_in, delay_now};
 ghost use Rattle.tta_sim.specs.InPlace.{IsWhole, AreWritten, CanStart, StartsNow, AreStarted};
 
 use crate::control::Control;
 use crate::control_moves::acting_said;
 use crate::dues::{Due, result_of};
-use crate::flat::{FlatStart, FlatWrite, Row};
+use crate::flat::{FlatControl, FlatStart, FlatWrite, Row};
 use crate::known::{operand_known, read_known};
 use crate::places::Places;
 use crate::results::{Part, Results};
-use crate::run::{Context, Run};
+use crate::run::Context;
 use crate::spaces::store_one;
 use crate::starts::{Start, clashes};
 use crate::store::Store;
+use crate::stretch::Stretch;
 use tta_flight::Region;
 use tta_ops::UnitSet;
 
@@ -221,38 +227,77 @@ pub fn is_free(store: &Store, region: &Region, part: Part, control: &Control, ro
     !any_clash(&Results::of(region, part), row.starts.as_slice())
 }
 
-/// Carries out a cycle with a line in order, all of whose words are set, move by move.
+/// Takes the control move of a line that acts, if any does. The cycle after it is `now`.
 #[inline(always)]
-pub fn carry_in_place(run: &mut Run, region: &mut Region, context: &Context<'_>, row: &Row)
-    requires ready { let old = kept_as run.old.store run.old.control region.old in
+fn take_control(
+    stretch: &mut Stretch,
+    places: &Places,
+    results: &Results<'_>,
+    moves: &[FlatControl],
+    now: u64,
+    delay: u8,
+)
+    requires there { AllByRecursion
+        (λ t. IsTrue (is_control_there results.now.units (control_said t))) moves.now }
+    requires few { now + 256 < 2 ^ 64 }
+    requires soon { now ≤ stretch.old.end }
+    requires goes { GoesUntil stretch.old.end stretch.old.control }
+    ensures pc { stretch.new.control.pc ≡ stretch.old.control.pc }
+    ensures phase { stretch.new.control.phase ≡ stretch.old.control.phase }
+    ensures pending { let before = option_map underway stretch.old.control.pending in
+        let controls = control_brought places.now (shown_by results.now) in
+        option_map underway stretch.new.control.pending
+        ≡ pending_with now delay before (first_some (λ t. controls (control_said t)) moves.now) }
+    ensures last { stretch.new.last ≡ stretch.old.last }
+    ensures within { stretch.new.end ≤ stretch.old.end }
+    ensures soon { now ≤ stretch.new.end }
+    ensures goes { GoesUntil stretch.new.end stretch.new.control }
+{
+    if !moves.is_empty() {
+        stretch.take_move(acting_said(places, results, moves), now, delay);
+    }
+}
+
+/// Carries out a cycle of a stretch with a line in order, all of whose words are set, move by move. It
+/// answers whether a cycle more is made.
+#[inline(always)]
+pub fn carry_in_place(
+    store: &mut Store,
+    stretch: &mut Stretch,
+    region: &mut Region,
+    context: &Context<'_>,
+    row: &Row,
+) -> bool
+    requires stretch { IsStretch store.old.cycle stretch.old }
+    requires before { store.old.cycle < stretch.old.end }
+    requires ready { let old = kept_as store.old stretch.old.control region.old in
         IsAtLine context.now.part (line_said row.now) old }
     requires own { IsWhole context.now.part region.old }
     requires order { is_in_order (line_said row.now) ≡ true }
     requires settled { let r = results_at context.now.part region.old in
-        is_settled run.old.store.places (shown_by r) (line_said row.now) ≡ true }
+        is_settled store.old.places (shown_by r) (line_said row.now) ≡ true }
     requires free { let r = results_at context.now.part region.old in
-        list_any (clashes_with r) (starts_of_line run.old.store r (line_said row.now)) ≡ false }
+        list_any (clashes_with r) (starts_of_line store.old r (line_said row.now)) ≡ false }
     requires controls { (is_nil (line_said row.now).controls
-        || not (is_some run.old.control.pending)) ≡ true }
-    ensures { (next : Option ℕ) → let U = stated unit_meaning context.now.units.now in
-        let old = kept_as run.old.store run.old.control region.old in
-        let new = kept_as run.new.store run.new.control region.new in
+        || not (is_some stretch.old.control.pending)) ≡ true }
+    ensures last { stretch.new.last ≡ stretch.old.last }
+    ensures stretch { IsStretch store.new.cycle stretch.new }
+    ensures goes { result ≡ true → store.new.cycle < stretch.new.end }
+    ensures cycle { (next : Option ℕ) → let U = stated unit_meaning context.now.units.now in
+        let old = kept_as store.old stretch.old.control region.old in
+        let new = kept_as store.new stretch.new.control region.new in
         let line = line_said row.now in
         IsCycle U context.now.part context.now.delay line next old new (Ran None false) }
 {
     let part = context.part;
     let results = Results::of(region, part);
-    write_in_place(&mut run.store.places, &results, row.writes.as_slice());
-    start_in_place(
-        &mut run.store,
-        region,
-        part,
-        context.units,
-        row.starts.as_slice(),
-    );
+    write_in_place(&mut store.places, &results, row.writes.as_slice());
+    start_in_place(store, region, part, context.units, row.starts.as_slice());
+    let now = store.cycle + 1;
     let controls = row.controls.as_slice();
-    let acting = acting_said(&run.store.places, &Results::of(region, part), controls);
+    let after = Results::of(region, part);
+    take_control(stretch, &store.places, &after, controls, now, context.delay);
     come_on(region);
-    run.store.cycle += 1;
-    run.control.advance(acting, run.store.cycle, context.delay);
+    store.cycle = now;
+    stretch.advance(now)
 }

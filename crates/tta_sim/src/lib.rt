@@ -30,6 +30,7 @@ mod starts;
 mod state;
 mod state_words;
 mod store;
+mod stretch;
 mod unset;
 mod writing;
 

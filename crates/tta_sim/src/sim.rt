@@ -16,6 +16,7 @@ ghost use Rattle.tta_sim.specs.declared.cycle_step.CycleStep.TheVariants.{Waitin
 
 use crate::cycle_step::CycleStep;
 use crate::flat::{Row, rows_of};
+use crate::run::Basis;
 use crate::state::SimState;
 use std::alloc::{AllocError, Global};
 use std::marker::Model;
@@ -134,22 +135,6 @@ impl Sim {
         self.state.settle(&self.region, &mut self.rows, m, code);
     }
 
-    /// Carries out one cycle with a line that is in order and settled, in place, and answers whether
-    /// it did.
-    #[inline(always)]
-    fn cycle_in_place(&mut self, m: &Machine, code: &Code, units: &UnitSet) -> bool
-        requires loaded { IsRunOf m.now code.now self.old }
-        requires few { self.old.cycle < 2 ^ 62 }
-        ensures loaded { IsRunOf m.now code.now self.new }
-        ensures stays { result ≡ false → self.new ≡ self.old }
-        ensures counted { self.new.cycle ≤ self.old.cycle + (if result then 1 else 0) }
-        ensures next { let U = stated unit_meaning units.now in (s : State) → Stands self.old s
-            → IsSilentRun (Stands self.new) s (if result then next_state U m.now code.now s else s) }
-    {
-        self.state
-            .cycle_in_place(&mut self.region, self.rows.as_slice(), m, code, units)
-    }
-
     /// Carries out one cycle with a pure line, and answers whether it did. It is not in line, since
     /// most cycles are made in place.
     #[inline(never)]
@@ -179,20 +164,15 @@ impl Sim {
         ensures next { let U = stated unit_meaning units.now in (s : State) → Stands self.old s
             → IsSilentRun (Stands self.new) s (iterate result (next_state U m.now code.now) s) }
     {
-        let mut made = 0;
-        'cycles: while made < most {
-            if !self.cycle_in_place(m, code, units) {
-                return made;
-            }
-            made += 1;
-        }
-        made
+        let basis = Basis { m, code, units };
+        self.state
+            .run_in_place(&mut self.region, self.rows.as_slice(), &basis, most)
     }
 
     /// Carries out one cycle as `run_silent` does, and answers whether it did.
     fn cycle_silently(&mut self, m: &Machine, code: &Code, units: &UnitSet) -> bool
         requires loaded { IsRunOf m.now code.now self.old }
-        requires few { self.old.cycle < 2 ^ 62 }
+        requires few { self.old.cycle + 1 < 2 ^ 62 }
         ensures loaded { IsRunOf m.now code.now self.new }
         ensures stops { result ≡ false
             → goes_pure self.new.lines self.new.pc self.new.outcome ≡ false }
@@ -201,7 +181,7 @@ impl Sim {
             → IsSilentRun (Stands self.new) s (if result then next_state U m.now code.now s else s) }
     {
         self.settle(m, code);
-        if self.cycle_in_place(m, code, units) {
+        if self.run_in_place(m, code, units, 1) == 1 {
             return true;
         }
         self.cycle_pure(m, code, units)

@@ -20,7 +20,7 @@ use Rattle.tta_sim.specs.Ready.{writes_in, begun_in, AreLeft, Begin}
 use Rattle.tta_sim.specs.Flat.{write_said, start_said, control_said, line_said}
 use Rattle.tta_sim.specs.Known.{is_known, is_start_known}
 use Rattle.tta_sim.specs.InPlace.{starts_of_line, begun_here, dues_in, AreWritten, AreStarted}
-use Rattle.tta_sim.proofs.Acting.{carried_at}
+use Rattle.tta_sim.proofs.Acting.{lands_same, carried_at}
 use Rattle.tta_sim.proofs.Ahead.{all_begin, none_beside}
 use Rattle.tta_sim.proofs.Beginning.{AreBegun, all_begun, others_begun}
 use Rattle.tta_sim.proofs.Flats.{all_said, first_said}
@@ -38,7 +38,7 @@ use Rattle.tta_sim.proofs.in_place.carry_in_place.Goals as goal
 
 pub write_in_place-requires-clause-known : goal.write_in_place-requires-clause-known
 write_in_place-requires-clause-known g c =
-    let places = c.args.run.now.store.places in
+    let places = c.args.store.now.places in
     let r = results_at c.args.context.now.part c.args.region.now in
     let line = line_said c.args.row.now in
     subst (λ ws. AllByRecursion (λ w. IsTrue (is_known places (shown_by c.of-results.result) w.reading)) ws) (sym (ap (map write_said) c.as_slice.ensures))
@@ -57,7 +57,7 @@ write_in_place-requires-clause-order g c =
 -- what is known once all words are written
 module _ (g : given.Over) (c : After-write_in_place g) where
   abbrev store : Store
-  store = c.args.run.now.store
+  store = c.args.store.now
 
   abbrev r : Results
   r = results_at c.args.context.now.part c.args.region.now
@@ -109,26 +109,26 @@ pub start_in_place-requires-clause-order : goal.start_in_place-requires-clause-o
 start_in_place-requires-clause-order g c =
     subst (λ ss. are_different is_barred ss ≡ true) (sym (ap (map start_said) c.as_slice-2.ensures)) (ordered (line_said c.args.row.now) c.requires.order).barred
 
-pub of-requires : goal.of-requires
-of-requires g c = record {
+pub of-after-requires : goal.of-after-requires
+of-after-requires g c = record {
   few = c.requires.ready.units.few;
   there = omega (arith, c.requires.ready.units.there, (c.start_in_place.ensures.started 0).kept.units);
 }
 
-pub acting_said-acting-requires : goal.acting_said-acting-requires
-acting_said-acting-requires g c =
-    subst (λ ts. AllByRecursion (λ t. IsTrue (is_control_there c.of.result.units (control_said t))) ts) (sym c.as_slice-controls.ensures)
-    (subst (λ q. AllByRecursion (λ t. IsTrue (is_control_there q.units (control_said t))) c.args.row.now.controls) (sym c.of.ensures)
+pub take_control-requires-clause-there : goal.take_control-requires-clause-there
+take_control-requires-clause-there g c =
+    subst (λ ts. AllByRecursion (λ t. IsTrue (is_control_there c.of-after.result.units (control_said t))) ts) (sym c.as_slice-controls.ensures)
+    (subst (λ q. AllByRecursion (λ t. IsTrue (is_control_there q.units (control_said t))) c.args.row.now.controls) (sym c.of-after.ensures)
     (all_said (λ t. IsTrue (is_control_there c.args.context.now.part.count t)) control_said c.args.row.now.controls c.requires.ready.there.controls))
 
 pub come_on-requires : goal.come_on-requires
 come_on-requires g c = omega (arith, c.requires.own.few, (c.start_in_place.ensures.started 0).kept.units)
 
-pub returns : goal.returns
-returns g c =
-    let at : After-write_in_place g = (goal.at.returns g c).After-write_in_place in
+pub returns-clause-cycle : goal.returns-clause-cycle
+returns-clause-cycle g c =
+    let at : After-write_in_place g = (goal.at.returns-clause-cycle g c).After-write_in_place in
     let U : Units = stated (λ v. (goal.OpUnit-dyn g v).unit_meaning v.1) c.args.context.now.units.now in
-    let control : Control = c.args.run.now.control in
+    let control : Control = c.args.stretch.now.control in
     let line : Line = line_said c.args.row.now in
     let order : Ordered line = ordered line c.requires.order in
     let final : Store = record (c.start_in_place.new.store) { cycle = c.start_in_place.new.store.cycle + 1 } in
@@ -141,7 +141,8 @@ returns g c =
     let moves_can : CanAllBegin (r g at) moves_dues = subst (CanAllBegin (r g at)) (sym dues) (can g at U) in
     let begun_at : (now : ℕ) → AreBegun now (r g at) (map (started_at now) moves_dues) c.come_on.new.region = λ now. all_begin now (r g at) moves_dues c.start_in_place.new.region c.come_on.new.region c.requires.ready.units moves_can (c.start_in_place.ensures.started now) c.come_on.ensures (none_beside (r g at).base (r g at).units c.args.region.now c.come_on.new.region c.requires.own.first c.requires.own.all) in
     let started_first : AreStarted 0 (r g at) (map (started_at 0) (dues_in U (after g at) (r g at) line.starts)) c.start_in_place.new.region = subst (λ ss. AreStarted 0 (r g at) (map (started_at 0) (dues_in U (after g at) (r g at) ss)) c.start_in_place.new.region) starts_are (c.start_in_place.ensures.started 0) in
-    let acts : option_map kind_and_word c.acting_said-acting.result ≡ first_some (control_brought (store g at).places (shown_by (r g at))) line.controls = c.acting_said-acting.ensures ∙ ap (first_some (λ t. control_brought c.start_in_place.new.store.places (shown_by c.of.result) (control_said t))) c.as_slice-controls.ensures ∙ sym (first_said (control_brought c.start_in_place.new.store.places (shown_by c.of.result)) control_said c.args.row.now.controls) ∙ ap (λ q. first_some (control_brought c.start_in_place.new.store.places (shown_by q)) line.controls) c.of.ensures ∙ ap (λ ps. first_some (control_brought ps (shown_by (results_at c.args.context.now.part c.start_in_place.new.region))) line.controls) c.start_in_place.ensures.places ∙ control_same (store g at) (r g at) line order (after g at) (written g at) U c.start_in_place.new.region started_first c.requires.ready.there in
+    let acting = first_some (λ t. control_brought c.start_in_place.new.store.places (shown_by c.of-after.result) (control_said t)) c.as_slice-controls.result.now in
+    let acts : acting ≡ first_some (control_brought (store g at).places (shown_by (r g at))) line.controls = ap (first_some (λ t. control_brought c.start_in_place.new.store.places (shown_by c.of-after.result) (control_said t))) c.as_slice-controls.ensures ∙ sym (first_said (control_brought c.start_in_place.new.store.places (shown_by c.of-after.result)) control_said c.args.row.now.controls) ∙ ap (λ q. first_some (control_brought c.start_in_place.new.store.places (shown_by q)) line.controls) c.of-after.ensures ∙ ap (λ ps. first_some (control_brought ps (shown_by (results_at c.args.context.now.part c.start_in_place.new.region))) line.controls) c.start_in_place.ensures.places ∙ control_same (store g at) (r g at) line order (after g at) (written g at) U c.start_in_place.new.region started_first c.requires.ready.there in
     λ next. record {
       carried = λ m i lines s decoded size delay_is same fed.
           let p = is_some control.pending in
@@ -162,7 +163,7 @@ returns g c =
           let begin = subst (λ new. Begin new (store g at).cycle (r g at) (results_at c.args.context.now.part c.come_on.new.region)) new_is
           (all_begun (store g at).cycle (r g at) moves_dues c.come_on.new.region moves_can (begun_at (store g at).cycle)) in
           carried_at U m decoded.rules i decoded.legal lines (store g at) (r g at) control s size same
-          none c.requires.ready.running final (results_at c.args.context.now.part c.come_on.new.region) c.advance.new.self brought begins None _ next false fed
+          none c.requires.ready.running final (results_at c.args.context.now.part c.come_on.new.region) c.advance.new.self.control brought begins None _ next false fed
           (sym (ap (list_any takes) (sym left.starts_are) ∙ plain.takes))
           refl refl refl back c.args.context.now.delay _ refl delay_is refl
           (λ ws had.
@@ -176,7 +177,8 @@ returns g c =
           (c.start_in_place.ensures.frame ∙ ap (fold store_frame (store g at).frame.items) stored)
           (ap (option_map (λ t. t.word)) (sym (ap (find puts) (sym left.starts_are) ∙ plain.puts)))
           (acts ∙ acting_same m decoded.rules i decoded.legal back line decoded.line (store g at).places (r g at) p)
-          c.advance.ensures;
+          (λ t is. c.advance.ensures.control t is
+          ∙ lands_same t (c.start_in_place.new.store.cycle + 1) c.take_control.ensures.pc c.take_control.ensures.pending c.take_control.ensures.phase);
       takes = refl;
       counted = ap (λ n. n + 1) c.start_in_place.ensures.cycle;
       memory = ap length c.start_in_place.ensures.«data» ∙ length-stored (store g at).memory.items begun;

@@ -1,22 +1,23 @@
 use Rattle.std.proofs.Common.{◌≡◌, ◌+◌, ◌<◌, true, false, get_or, None, Some, length, slice_get, refl, sym, ap, ◌∙◌, subst, arith}
 use Rattle.std.proofs.lemmas.Option.{slice_get-get_or}
-use Rattle.tta_sim.specs.Cited.{stated, IsMachine}
+use Rattle.tta_sim.specs.Cited.{stated, IsMachine, iterate, next}
 use Rattle.tta_sim.specs.declared.cycle_step.CycleStep.TheVariants.{Ran}
 use Rattle.tta_sim.specs.declared.decoded.Line.{Line}
 use Rattle.tta_sim.specs.declared.flat.Row.{Row}
 use Rattle.tta_sim.specs.Flat.{line_said}
-use Rattle.tta_sim.specs.Kept.{kept_as, IsAtLine}
+use Rattle.tta_sim.specs.Kept.{kept_as, steered, held_of, IsAtLine}
 use Rattle.tta_sim.specs.Order.{is_in_order}
-use Rattle.tta_sim.specs.Results.{results_at, shown_by}
+use Rattle.tta_sim.specs.Results.{results_at, units_of, shown_by}
+use Rattle.tta_sim.specs.Held.{StandsWith, IsSilentRun}
 use Rattle.tta_sim.specs.Known.{all_shown, is_settled, Grows, IsMarked, IsKnown, AreKnown}
 use Rattle.tta_sim.proofs.Flats.{line_is}
 use Rattle.tta_sim.proofs.Going.{length-lines}
 use Rattle.tta_sim.proofs.Marking.{get_or_same, known_kept}
-use Rattle.tta_sim.proofs.Reaching.{Reached, at_line, code_stays, goes, answers}
+use Rattle.tta_sim.proofs.Reaching.{Reached, state_steered, at_line, code_stays, goes, answers}
 use Rattle.tta_sim.proofs.Silent.{silent_cycle}
-use Rattle.tta_sim.proofs.state.SimState.cycle_in_place.Given as given
-use Rattle.tta_sim.proofs.state.SimState.cycle_in_place.Goals.{After-m}
-use Rattle.tta_sim.proofs.state.SimState.cycle_in_place.Goals as goal
+use Rattle.tta_sim.proofs.state.SimState.line_in_place.Given as given
+use Rattle.tta_sim.proofs.state.SimState.line_in_place.Goals.{After-m}
+use Rattle.tta_sim.proofs.state.SimState.line_in_place.Goals as goal
 
 -- the line at the address, which its row says
 module _ (g : given.Over) (c : After-m g) where
@@ -27,26 +28,26 @@ module _ (g : given.Over) (c : After-m g) where
   line = line_said row
 
   abbrev l : Line
-  l = get_or c.args.self.now.lines c.self.inside.run.control.pc line
+  l = get_or c.args.self.now.lines c.args.stretch.now.control.pc line
 
-  within : c.self.inside.run.control.pc < length c.args.self.now.lines
+  within : c.args.stretch.now.control.pc < length c.args.self.now.lines
   within = omega (arith, c.if-pc-rows.false, c.requires.known.count)
 
   lines_are : c.args.self.now.lines ≡ c.self.inside.lines
   lines_are = sym (ap (λ h. h.lines) c.self.view_is)
 
-  reached_at : (x : Line) → x ≡ get_or c.self.inside.lines c.self.inside.run.control.pc x
-      → Reached c.args.m.now c.args.code.now c.args.self.now 0 c.args.region.now c.part_of.result c.self.inside.lines c.self.inside.run.store c.self.inside.run.control
-      c.m.inside.control.delay x
+  reached_at : (x : Line) → x ≡ get_or c.self.inside.lines c.args.stretch.now.control.pc x
+      → Reached c.args.basis.now.m.now c.args.basis.now.code.now (steered c.args.self.now c.args.stretch.now.control) 0 c.args.region.now c.part_of.result
+      c.self.inside.lines c.self.inside.run.store c.args.stretch.now.control c.m.inside.control.delay x
   reached_at x is = record {
     rules = subst IsMachine c.m.view_is c.m.invariant;
-    run = c.requires.loaded;
+    run = state_steered c.args.basis.now.m.now c.args.basis.now.code.now c.args.self.now c.args.stretch.now.control c.requires.loaded;
     has = c.requires.has_units;
     part_is = c.part_of.ensures;
-    view = c.self.view_is;
-    running = c.in-Running.is;
+    view = ap (λ h. steered h c.args.stretch.now.control) c.self.view_is;
+    running = (c.requires.stretch.goes c.requires.before).running;
     within =
-        let many = ap length c.requires.loaded.decoded ∙ length-lines c.args.m.now (1 + c.args.m.now.control.delay) c.args.code.now.words in
+        let many = ap length c.requires.loaded.decoded ∙ length-lines c.args.basis.now.m.now (1 + c.args.basis.now.m.now.control.delay) c.args.basis.now.code.now.words in
         omega (arith, c.if-pc-rows.false, many, c.requires.known.count);
     delay_is = ap (λ m. m.control.delay) c.m.view_is;
     line_is = is;
@@ -54,22 +55,22 @@ module _ (g : given.Over) (c : After-m g) where
 
   known : IsKnown c.args.self.now.places (all_shown c.args.region.now) l row
   known =
-      let pc = c.self.inside.run.control.pc in
+      let pc = c.args.stretch.now.control.pc in
       let less : pc < length c.args.rows.now = omega (arith, c.if-pc-rows.false) in
       c.requires.known.each pc l row (slice_get-get_or c.args.self.now.lines pc line within)
       (slice_get-get_or c.args.rows.now pc row less ∙ ap Some (sym c.index-rows-pc.is))
 
   said : line ≡ l
   said =
-      let pc = c.self.inside.run.control.pc in
+      let pc = c.args.stretch.now.control.pc in
       let here = reached_at l (get_or_same c.args.self.now.lines pc line l within ∙ ap (λ ls. get_or ls pc l) lines_are) in
       ap line_said known.moves ∙ line_is c.part_of.result.count row.mark l (at_line here c.requires.few).there
 
-  pub reached : Reached c.args.m.now c.args.code.now c.args.self.now 0 c.args.region.now c.part_of.result c.self.inside.lines c.self.inside.run.store
-      c.self.inside.run.control c.m.inside.control.delay line
-  reached = reached_at line (said ∙ ap (λ ls. get_or ls c.self.inside.run.control.pc line) lines_are)
+  pub reached : Reached c.args.basis.now.m.now c.args.basis.now.code.now (steered c.args.self.now c.args.stretch.now.control) 0 c.args.region.now c.part_of.result c.self.inside.lines c.self.inside.run.store
+      c.args.stretch.now.control c.m.inside.control.delay line
+  reached = reached_at line (said ∙ ap (λ ls. get_or ls c.args.stretch.now.control.pc line) lines_are)
 
-  ready : IsAtLine c.part_of.result line (kept_as c.self.inside.run.store c.self.inside.run.control c.args.region.now)
+  ready : IsAtLine c.part_of.result line (kept_as c.self.inside.run.store c.args.stretch.now.control c.args.region.now)
   ready = at_line reached c.requires.few
 
   -- what the ports show, by either name
@@ -105,26 +106,31 @@ carry_in_place-requires-clause-settled g c =
 
 pub returns-clause-loaded : goal.returns-clause-loaded
 returns-clause-loaded g c =
-    let U = stated (λ v. (goal.OpUnit-dyn g v).unit_meaning v.1) c.args.units.now in
-    code_stays (reached g (goal.at.returns-clause-loaded g c).After-m) U None _ _ _ _ (c.carry_in_place.ensures None)
+    let U = stated (λ v. (goal.OpUnit-dyn g v).unit_meaning v.1) c.args.basis.now.units.now in
+    state_steered c.args.basis.now.m.now c.args.basis.now.code.now _ c.self.inside.run.control
+    (code_stays (reached g (goal.at.returns-clause-loaded g c).After-m) U None _ _ _ _ (c.carry_in_place.ensures.cycle None))
 
 pub returns-clause-kept : goal.returns-clause-kept
-returns-clause-kept g c = (c.carry_in_place.ensures None).others.kept
+returns-clause-kept g c = (c.carry_in_place.ensures.cycle None).others.kept
 
 pub returns-clause-known : goal.returns-clause-known
 returns-clause-known g c =
-    let words = (c.carry_in_place.ensures None).words in
+    let words = (c.carry_in_place.ensures.cycle None).words in
     let before = subst (λ h. AreKnown h.places (all_shown c.args.region.now) h.lines c.args.rows.now) (sym c.self.view_is) c.requires.known in
-    known_kept c.self.inside.run.store.places c.carry_in_place.new.run.store.places (all_shown c.args.region.now) (all_shown c.carry_in_place.new.region) words.places
+    known_kept c.self.inside.run.store.places c.carry_in_place.new.store.places (all_shown c.args.region.now) (all_shown c.carry_in_place.new.region) words.places
     (subst (λ p. Grows (shown_by (results_at p c.args.region.now)) (shown_by (results_at p c.carry_in_place.new.region))) c.part_of.ensures words.ports)
     c.self.inside.lines c.self.inside.lines refl c.args.rows.now before
 
 pub returns-clause-counted : goal.returns-clause-counted
-returns-clause-counted g c = omega (arith, (c.carry_in_place.ensures None).counted, ap (λ h. h.cycle) c.self.view_is)
+returns-clause-counted g c = omega (arith, (c.carry_in_place.ensures.cycle None).counted, ap (λ h. h.cycle) c.self.view_is, c.of.ensures.made)
 
 pub returns-clause-next : goal.returns-clause-next
 returns-clause-next g c = λ s same.
-    let U = stated (λ v. (goal.OpUnit-dyn g v).unit_meaning v.1) c.args.units.now in
+    let U = stated (λ v. (goal.OpUnit-dyn g v).unit_meaning v.1) c.args.basis.now.units.now in
+    let m = c.args.basis.now.m.now in
+    let code = c.args.basis.now.code.now in
     let here = reached g (goal.at.returns-clause-next g c).After-m in
-    let made = c.carry_in_place.ensures (slice_get s.rest 0) in
-    silent_cycle U c.args.m.now c.args.code.now _ _ s (Ran None false) refl (goes here U _ _ _ _ _ made s same refl) (answers here U _ _ _ _ _ made s same refl)
+    let made = c.carry_in_place.ensures.cycle (slice_get s.rest 0) in
+    let one = silent_cycle U m code _ _ s (Ran None false) refl (goes here U _ _ _ _ _ made s same refl) (answers here U _ _ _ _ _ made s same refl) in
+    let after = held_of c.self.inside.lines c.carry_in_place.new.store c.carry_in_place.new.stretch.control in
+    subst (λ n. IsSilentRun (StandsWith (units_of 0 m c.carry_in_place.new.region) after) s (iterate n (next U m code) s)) (sym c.of.ensures.made) one
