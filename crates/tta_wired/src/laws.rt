@@ -30,9 +30,8 @@ pub fn net_is_ordered()
     ensures { NetIsOrdered }
 {}
 
-/// As long as no core meets a fault, the words that have gone to the outside at the ports of a core
-/// whose code agrees with a program begin what the program puts out, or the other way round, in
-/// whatever order the programs take their steps.
+/// The words that have gone to the outside at the ports of a core whose code agrees with a program begin
+/// what the program puts out, or the other way round, in whatever order the programs take their steps.
 pub fn net_agrees()
     ensures { NetAgrees }
 {}
