@@ -31,7 +31,8 @@ pub fn trap_stays()
 {}
 
 /// The circuit stands still only where the machine has halted, the next cycle meets a fault, a word that
-/// is asked for is not offered, or one that is to be put out is not taken.
+/// is asked for is not offered, or one that is to be put out is not taken. Where it runs, tells no fault,
+/// and asks for a word and none is left, the machine waits in its next cycle.
 pub fn trap_stands_still()
     ensures { TrapStandsStill }
 {}
