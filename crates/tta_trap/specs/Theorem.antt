@@ -1,6 +1,6 @@
 -- Runs of a circuit that tells the first fault are runs of its machine up to there.
-use Rattle.std.specs.Prelude.{◌≡◌, ℕ, ◌+◌, ◌<◌, true, false, not, ◌&&◌, ◌||◌, List, []}
-use Rattle.tta_trap.specs.Cited.{Units, Machine, IsMachine, IsLegalCode, State, Fault, Waiting, next, Circuit, is_set, Store, IsOffered, IsReady, Asks, Gives, Goes, FaultNow, Watches, is_halted, is_fault, Hardware, signals_after, cycles_after, HasRunFrom, AreClocksFrom, HoldsWords, cyc_over}
+use Rattle.std.specs.Prelude.{◌≡◌, ℕ, ◌+◌, ◌<◌, true, false, not, ◌&&◌, ◌||◌, List, [], length}
+use Rattle.tta_trap.specs.Cited.{Units, Machine, IsMachine, IsLegalCode, State, Fault, Waiting, next, Circuit, is_set, Store, Data, Frame, IsOffered, IsReady, Asks, Gives, Goes, FaultNow, Watches, is_halted, is_fault, Hardware, held_at, signals_after, cycles_after, HasRunFrom, AreClocksFrom, HoldsWords, cyc_over}
 use Rattle.tta_code.specs.declared.code.Code.{Code as Program}
 use Rattle.tta_hardware.specs.Signals.{Signal as Named}
 use Rattle.tta_trap.specs.Trap.{trap_circuit}
@@ -68,3 +68,12 @@ TrapStandsStill =
     → IsClocked u m code first memory frame input h inputs last → (t : ℕ) → last < t
     → is_set (signals_after u (trap_circuit m code first) h inputs t Goes) ≡ false
     → IsHeld u m code (signals_after u (trap_circuit m code first) h inputs t) (state_after u m code first memory frame input h inputs t)
+
+-- After any clocks from the power on, whatever they bring, the circuit holds the words of the code, and as many words of the data space
+-- and of the frame as these have. So clocks that begin anew can come at any time.
+abbrev pub TrapHoldsCode : Type 0
+TrapHoldsCode =
+    (u : Units) (m : Machine) (code : Program) (memory : List ℕ) (powers : Named → ℕ) (inputs : ℕ → Named → ℕ)
+    → length memory ≡ m.data_words → (t : ℕ)
+    → HoldsWords m code ((held_at u (trap_circuit m code memory) powers inputs t).memories Data)
+    ((held_at u (trap_circuit m code memory) powers inputs t).memories Frame) (held_at u (trap_circuit m code memory) powers inputs t)
