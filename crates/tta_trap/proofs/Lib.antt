@@ -30,3 +30,6 @@ pub mod Knowing
 pub mod Onward
 pub mod Rows
 mod Staying
+mod CodeHeld
+mod Filled
+mod Imaging

@@ -1,5 +1,5 @@
 -- What a circuit tells and where it stops, at every clock.
-use Rattle.std.proofs.Common.{◌≡◌, ℕ, zero, suc, ◌+◌, ◌<◌, ◌≤◌, Bool, true, false, not, ◌&&◌, ◌||◌, List, refl, sym, ap, ◌∙◌, subst, arith}
+use Rattle.std.proofs.Common.{◌≡◌, ℕ, zero, suc, ◌+◌, ◌<◌, ◌≤◌, Bool, true, false, not, ◌&&◌, ◌||◌, List, [], refl, sym, ap, ◌∙◌, subst, arith}
 use Rattle.std.specs.Prelude.{drop, nat_lt}
 use Rattle.std.proofs.lemmas.Bool.{false≢true, ltb-true, ltb-false}
 use Rattle.tta_circuit.specs.Meaning.{bit}
@@ -7,13 +7,14 @@ use Rattle.tta_trap.specs.Cited.{Units, Machine, State, Outcome, Running, Halted
 use Rattle.tta_code.specs.declared.code.Code.{Code as Program}
 use Rattle.tta_hardware.specs.Signals.{Signal as Named}
 use Rattle.tta_hardware.specs.Theorem.{is_waiting}
+use Rattle.tta_hardware.proofs.Stepping.{one_clock}
 use Rattle.tta_trap.specs.Trap.{trap_circuit}
 use Rattle.tta_trap.specs.Tells.{fault_number, TellsFaults, KnowsOn}
 use Rattle.tta_trap.specs.Theorem.{IsClocked, HasTrapped, TrapRuns, TrapStays, IsHeld, TrapStandsStill}
 use Rattle.tta_trap.proofs.Comes.{comes, stays_halted}
-use Rattle.tta_trap.proofs.Settled.{free_settled, goes_is}
+use Rattle.tta_trap.proofs.Settled.{free_settled, is_settled, goes_is}
 use Rattle.tta_trap.proofs.Waited.{waited, first_stands, first_knows, free_goes}
-use Rattle.tta_trap.proofs.Trapped.{state, Reaches, is_on, tells_here, told_set, told_stops, one_more}
+use Rattle.tta_trap.proofs.Trapped.{state, Reaches, is_on, feeds, tells_here, told_set, told_stops, one_more}
 
 module _ (tells : TellsFaults) (knows_on : KnowsOn) (u : Units) (m : Machine) (code : Program)
     (had memory frame input : List ℕ) (h : Hardware) (inputs : ℕ → Named → ℕ) (last : ℕ)
@@ -153,7 +154,7 @@ module _ (tells : TellsFaults) (knows_on : KnowsOn) (u : Units) (m : Machine) (c
     by true is = absurd (false≢true (sym is))
     by false is = refl
 
-  pub still : (t : ℕ) → last < t → is_set (env t Goes) ≡ false → IsHeld (env t) (at t)
+  pub still : (t : ℕ) → last < t → is_set (env t Goes) ≡ false → IsHeld u m code (env t) (at t)
   still t less stops = record {
     why = ap (λ b. b || (is_set (env t (Watches FaultNow))
         || (is_set (env t Asks) && not (is_set (env t IsOffered)) || is_set (env t Gives) && not (is_set (env t IsReady)))))
@@ -165,7 +166,21 @@ module _ (tells : TellsFaults) (knows_on : KnowsOn) (u : Units) (m : Machine) (c
         (sym (on t less))
         ∙ ap (λ b. not (is_set (env t (Watches FaultNow))) && b) (sym (free_goes u m given.rules code had (held t) (inputs t)))
         ∙ sym (goes_is u m given.rules code had (held t) (inputs t)) ∙ stops);
+    waits = by (at t).outcome refl;
   } where
+    here : Here t (at t)
+    here = every t less
+
+    by : (o : Outcome) → (at t).outcome ≡ o → is_halted (at t).outcome ≡ false → is_set (env t (Watches FaultNow)) ≡ false
+        → is_set (env t Asks) ≡ true → (at t).rest ≡ [] → next u m code (at t) ≡ record (at t) { outcome = Waiting }
+    by Running is runs none asks all =
+        ((one_clock u m code (held t) (held (suc t)) (env t) (at t) given.rules given.legal here.run.stands is (sym (set t less) ∙ none)
+        (is_settled u m given.rules code had (held t) (inputs t) none)
+        (feeds tells knows_on u m code had memory frame input h inputs last given t (at t) less here) (on t less)).1 stops).waits asks all
+    by Halted is runs none asks all = absurd (false≢true (sym runs ∙ ap is_halted is))
+    by Waiting is runs none asks all = absurd (false≢true (sym here.run.goes_on ∙ ap is_waiting is))
+    by (Fault number cycle) is runs none asks all = absurd (false≢true (sym here.sound ∙ ap is_fault is))
+
     halted : is_set (env t HasHalted) ≡ is_halted (at t).outcome
     halted = ap is_set (free_settled u m given.rules code had (held t) (inputs t)).halted ∙ (every t less).run.stands.halted
 

@@ -150,7 +150,7 @@ module _ (tells : TellsFaults) (knows_on : KnowsOn) (u : Units) (m : Machine) (c
   }
 
   -- a word that is offered is the next of the rest
-  feeds : (t : ℕ) (s : State) → last < t → Reaches t s → IsFed (env t) s.rest
+  pub feeds : (t : ℕ) (s : State) → last < t → Reaches t s → IsFed (env t) s.rest
   feeds t s less is offered = ap (λ (l : List ℕ). slice_get l 0) is.run.rest ∙ given.clocks.fed t less offered
 
   -- where a fault is told, or the machine has halted, nothing is carried out

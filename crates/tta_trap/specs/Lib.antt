@@ -4,6 +4,7 @@ pub mod Memory
 pub mod Trap
 pub mod Tells
 pub mod Theorem
+pub mod Images
 pub mod Sized
 pub mod Within
 pub mod Pins

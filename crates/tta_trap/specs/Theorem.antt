@@ -1,6 +1,6 @@
 -- Runs of a circuit that tells the first fault are runs of its machine up to there.
-use Rattle.std.specs.Prelude.{◌≡◌, ℕ, ◌+◌, ◌<◌, true, false, not, ◌&&◌, ◌||◌, List}
-use Rattle.tta_trap.specs.Cited.{Units, Machine, IsMachine, IsLegalCode, State, Fault, next, Circuit, is_set, Store, IsOffered, IsReady, Asks, Gives, Goes, FaultNow, Watches, is_halted, is_fault, Hardware, signals_after, cycles_after, HasRunFrom, AreClocksFrom, HoldsWords, cyc_over}
+use Rattle.std.specs.Prelude.{◌≡◌, ℕ, ◌+◌, ◌<◌, true, false, not, ◌&&◌, ◌||◌, List, [], length}
+use Rattle.tta_trap.specs.Cited.{Units, Machine, IsMachine, IsLegalCode, State, Fault, Waiting, next, Circuit, is_set, Store, Data, Frame, IsOffered, IsReady, Asks, Gives, Goes, FaultNow, Watches, is_halted, is_fault, Hardware, held_at, signals_after, cycles_after, HasRunFrom, AreClocksFrom, HoldsWords, cyc_over}
 use Rattle.tta_code.specs.declared.code.Code.{Code as Program}
 use Rattle.tta_hardware.specs.Signals.{Signal as Named}
 use Rattle.tta_trap.specs.Trap.{trap_circuit}
@@ -53,10 +53,13 @@ TrapStays =
     × (cycles_after u (trap_circuit m code first) h inputs (t + more) ≡ cycles_after u (trap_circuit m code first) h inputs t)
 
 -- Why a clock carries nothing out: the machine has halted, the next cycle meets a fault, or the circuit asks for a word and none is
--- offered, or it has one to put out that nobody takes.
-pub record IsHeld (env : Named → ℕ) (s : State) : Type 0 where
+-- offered, or it has one to put out that nobody takes. Where it runs, tells no fault, and asks for a word and none is left, the machine
+-- waits in its next cycle.
+pub record IsHeld (u : Units) (m : Machine) (code : Program) (env : Named → ℕ) (s : State) : Type 0 where
   pub why : (is_halted s.outcome || (is_set (env (Watches FaultNow))
       || (is_set (env Asks) && not (is_set (env IsOffered)) || is_set (env Gives) && not (is_set (env IsReady))))) ≡ true
+  pub waits : is_halted s.outcome ≡ false → is_set (env (Watches FaultNow)) ≡ false → is_set (env Asks) ≡ true → s.rest ≡ []
+      → next u m code s ≡ record s { outcome = Waiting }
 
 -- The circuit stands still only so, once it does not begin anew.
 abbrev pub TrapStandsStill : Type 0
@@ -64,4 +67,13 @@ TrapStandsStill =
     (u : Units) (m : Machine) (code : Program) (first memory frame input : List ℕ) (h : Hardware) (inputs : ℕ → Named → ℕ) (last : ℕ)
     → IsClocked u m code first memory frame input h inputs last → (t : ℕ) → last < t
     → is_set (signals_after u (trap_circuit m code first) h inputs t Goes) ≡ false
-    → IsHeld (signals_after u (trap_circuit m code first) h inputs t) (state_after u m code first memory frame input h inputs t)
+    → IsHeld u m code (signals_after u (trap_circuit m code first) h inputs t) (state_after u m code first memory frame input h inputs t)
+
+-- After any clocks from the power on, whatever they bring, the circuit holds the words of the code, and as many words of the data space
+-- and of the frame as these have. So clocks that begin anew can come at any time.
+abbrev pub TrapHoldsCode : Type 0
+TrapHoldsCode =
+    (u : Units) (m : Machine) (code : Program) (memory : List ℕ) (powers : Named → ℕ) (inputs : ℕ → Named → ℕ)
+    → length memory ≡ m.data_words → (t : ℕ)
+    → HoldsWords m code ((held_at u (trap_circuit m code memory) powers inputs t).memories Data)
+    ((held_at u (trap_circuit m code memory) powers inputs t).memories Frame) (held_at u (trap_circuit m code memory) powers inputs t)

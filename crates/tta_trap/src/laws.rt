@@ -2,7 +2,8 @@
 //! is the law.
 
 ghost use Rattle.tta_trap.specs.Tells.{KnowsOn, TellsFaults};
-ghost use Rattle.tta_trap.specs.Theorem.{TrapRuns, TrapStandsStill, TrapStays};
+ghost use Rattle.tta_trap.specs.Theorem.{TrapHoldsCode, TrapRuns, TrapStandsStill, TrapStays};
+ghost use Rattle.tta_trap.specs.Images.{TrapFilledRuns, TrapImageRuns};
 ghost use Rattle.tta_trap.specs.Sized.{TrapIsClosed, TrapIsPlain, TrapNamesDiffer};
 ghost use Rattle.tta_trap.specs.Pins.{TrapPinsServe};
 ghost use Rattle.tta_trap.specs.Within.{TrapWordsStay};
@@ -31,7 +32,8 @@ pub fn trap_stays()
 {}
 
 /// The circuit stands still only where the machine has halted, the next cycle meets a fault, a word that
-/// is asked for is not offered, or one that is to be put out is not taken.
+/// is asked for is not offered, or one that is to be put out is not taken. Where it runs, tells no fault,
+/// and asks for a word and none is left, the machine waits in its next cycle.
 pub fn trap_stands_still()
     ensures { TrapStandsStill }
 {}
@@ -61,4 +63,21 @@ pub fn trap_pins_serve()
 /// The words of all its signals and memories stay within their widths.
 pub fn trap_words_stay()
     ensures { TrapWordsStay }
+{}
+
+/// After any clocks from the power on, the circuit holds the words of the code and has its spaces, so
+/// clocks that begin anew can come at any time.
+pub fn trap_holds_code()
+    ensures { TrapHoldsCode }
+{}
+
+/// Zeros past the code change nothing, and no fault that it tells.
+pub fn trap_filled_runs()
+    ensures { TrapFilledRuns }
+{}
+
+/// The circuit whose memory of code has the bits of an image runs as the machine does, and tells the fault
+/// that the next cycle meets.
+pub fn trap_image_runs()
+    ensures { TrapImageRuns }
 {}
