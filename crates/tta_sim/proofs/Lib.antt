@@ -21,6 +21,7 @@ pub mod Facing
 pub mod Brought
 pub mod Readying
 pub mod Reaching
+pub mod Stretches
 pub mod Going
 pub mod Taking
 pub mod UnsetReads

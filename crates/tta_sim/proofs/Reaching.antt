@@ -10,7 +10,7 @@ use Rattle.tta_sim.specs.declared.results.Part.{Part}
 use Rattle.tta_sim.specs.declared.store.Store.{Store}
 use Rattle.tta_sim.specs.Results.{HasUnits, results_at, units_of}
 use Rattle.tta_sim.specs.Held.{HeldState, StandsWith, GoesWith, IsAnswer, IsStateOf}
-use Rattle.tta_sim.specs.Kept.{held_of, steered, kept_as, IsAtLine, IsCarried, IsCycle}
+use Rattle.tta_sim.specs.Kept.{held_of, kept_as, IsAtLine, IsCarried, IsCycle}
 use Rattle.tta_sim.proofs.Going.{Here, line_here, goes_stands, goes_answer}
 use Rattle.tta_sim.proofs.Owning.{units_there}
 
@@ -26,10 +26,6 @@ pub record Reached (m : Machine) (code : Code) (h : HeldState) (base : ℕ) (reg
   pub within : control.pc < length code.words
   pub delay_is : delay ≡ m.control.delay
   pub line_is : line ≡ get_or lines control.pc line
-
--- a run has its code wherever control is
-pub state_steered : (m : Machine) (code : Code) (h : HeldState) (control : Control) → IsStateOf m code h → IsStateOf m code (steered h control)
-state_steered m code h control is = record { legal = is.legal; reached = is.reached; decoded = is.decoded; memory = is.memory; frame = is.frame }
 
 module _ {m : Machine} {code : Code} {h : HeldState} {base : ℕ} {region : Rings} {part : Part} {lines : List Line} {store : Store} {control : Control} {delay : ℕ} {line : Line}
     (r : Reached m code h base region part lines store control delay line) where

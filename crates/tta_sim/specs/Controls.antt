@@ -38,9 +38,9 @@ pub record GoesUntil (end : ℕ) (c : Control) : Type 0 where
   pub later : (p : Pending) → c.pending ≡ Some p → end ≤ p.time
 
 -- So it is up to the end of a stretch, where that is still to come.
-pub record IsStretch (now : ℕ) (s : Stretch) : Type 0 where
+pub record IsStretch (now : ℕ) (c : Control) (s : Stretch) : Type 0 where
   pub within : s.end ≤ s.last
-  pub goes : now < s.end → GoesUntil s.end s.control
+  pub goes : now < s.end → GoesUntil s.end c
 
 -- how many cycles were made, by what became of a line
 abbrev pub cycles_in : Pace → ℕ

@@ -1,5 +1,5 @@
 -- How a run is kept, and what a cycle of it comes to.
-use Rattle.std.specs.Prelude.{◌≡◌, ℕ, ◌+◌, ◌<◌, ◌^◌, ◌++◌, List, length, Option, Some, is_none, Bool, true, false, not, ◌&&◌, option_map, option_to_list}
+use Rattle.std.specs.Prelude.{◌≡◌, ℕ, ◌+◌, ◌<◌, ◌≤◌, ◌^◌, ◌++◌, List, length, Option, Some, is_none, Bool, true, false, not, ◌&&◌, option_map, option_to_list}
 use Rattle.tta_sim.specs.Cited.{Units, Machine, Code, Instruction, State, Waiting, Fault, carry_out, Rings, IsFed, left}
 use Rattle.tta_sim.specs.declared.cycle_step.CycleStep.{CycleStep}
 use Rattle.tta_sim.specs.declared.cycle_step.CycleStep.TheVariants.{Ran, Halted as HadHalted, Waiting as Waits, Fault as Faults}
@@ -7,7 +7,9 @@ use Rattle.tta_sim.specs.declared.decoded.Line.{Line}
 use Rattle.tta_sim.specs.declared.flat.Row.{Row}
 use Rattle.tta_sim.specs.declared.store.Store.{Store}
 use Rattle.tta_sim.specs.declared.control.Control.{Control}
-use Rattle.tta_sim.specs.declared.control.Phase.TheVariants.{Running}
+use Rattle.tta_code.specs.Cycle.{Running, Pending as Underway}
+use Rattle.tta_sim.specs.declared.control.Phase.TheVariants as phase
+use Rattle.tta_sim.specs.declared.stretch.Stretch.{Stretch}
 use Rattle.tta_sim.specs.declared.results.Part.{Part}
 use Rattle.tta_sim.specs.Held.{HeldState, StandsWith, GoesWith, IsStateOf, is_fault, has_taken, cycles_of}
 use Rattle.tta_sim.specs.Results.{Results, AreThere, HasUnits, results_at}
@@ -29,10 +31,6 @@ held_of lines store control = record {
   pending = option_map underway control.pending;
   outcome = outcome_of store.cycle control.phase;
 }
-
--- the same where control is this
-abbrev pub steered : HeldState → Control → HeldState
-steered h control = record h { pc = control.pc; pending = option_map underway control.pending; outcome = outcome_of h.cycle control.phase }
 
 -- the answer of a cycle that took a state to the next
 abbrev pub Answers : (s next : State) → CycleStep → Type 0
@@ -68,7 +66,7 @@ kept_as store control region = record { store = store; control = control; region
 
 -- A run that goes on can carry out a line, or can tell why not, where these are its units in the region.
 pub record IsAtLine (part : Part) (line : Line) (k : Kept) : Type 0 where
-  pub running : k.control.phase ≡ Running
+  pub running : k.control.phase ≡ phase.Running
   pub units : AreThere (results_at part k.region)
   pub there : IsLineThere part.count line
   pub fitting : FitsLine k.store (results_at part k.region) line
@@ -98,3 +96,9 @@ pub record HasRows (m : Machine) (code : Code) (h : HeldState) (region : Rings) 
   pub has_units : HasUnits 0 m region
   pub own : length region.rings ≡ length m.units
   pub known : AreKnown h.places (all_shown region) h.lines rows
+
+-- Up to the end of a stretch the run goes on, and no control move takes effect that is under way.
+pub record HasStretch (h : HeldState) (s : Stretch) : Type 0 where
+  pub within : s.end ≤ s.last
+  pub runs : h.cycle < s.end → h.outcome ≡ Running
+  pub later : h.cycle < s.end → (p : Underway) → h.pending ≡ Some p → s.end ≤ p.time

@@ -10,13 +10,14 @@ ghost use Rattle.tta_sim.specs.Lines.{is_unread, is_reading_there, is_control_th
 ghost use Rattle.tta_sim.specs.Lines.{controls_well, IsLineThere};
 ghost use Rattle.tta_sim.specs.Flat.{control_said};
 
-use crate::control::ControlMove;
+use crate::control::{Control, ControlMove};
 use crate::decoded::{DecodedControl, Line, Reading};
 use crate::flat::FlatControl;
 use crate::known::read_said;
 use crate::lines::{Read, read_move};
 use crate::places::Places;
 use crate::results::Results;
+use crate::store::Store;
 use crate::stretch::Stretch;
 
 /// Whether a move could not be read.
@@ -147,33 +148,35 @@ pub fn acting_said(
     None
 }
 
-/// Takes the control move of a line that acts, if any does. The cycle after it is `now`.
+/// Takes the control move of a line that acts, if any does, before the next cycle begins.
 #[inline(always)]
 pub fn take_control(
     stretch: &mut Stretch,
-    places: &Places,
+    control: &mut Control,
+    store: &Store,
     results: &Results<'_>,
     moves: &[FlatControl],
-    now: u64,
     delay: u8,
 )
     requires there { AllByRecursion
         (λ t. IsTrue (is_control_there results.now.units (control_said t))) moves.now }
-    requires few { now + 256 < 2 ^ 64 }
-    requires soon { now ≤ stretch.old.end }
-    requires goes { GoesUntil stretch.old.end stretch.old.control }
-    ensures pc { stretch.new.control.pc ≡ stretch.old.control.pc }
-    ensures phase { stretch.new.control.phase ≡ stretch.old.control.phase }
-    ensures pending { let before = option_map underway stretch.old.control.pending in
-        let controls = control_brought places.now (shown_by results.now) in
-        option_map underway stretch.new.control.pending
+    requires few { store.now.cycle + 257 < 2 ^ 64 }
+    requires soon { store.now.cycle + 1 ≤ stretch.old.end }
+    requires goes { GoesUntil stretch.old.end control.old }
+    ensures pc { control.new.pc ≡ control.old.pc }
+    ensures phase { control.new.phase ≡ control.old.phase }
+    ensures pending { let before = option_map underway control.old.pending in
+        let controls = control_brought store.now.places (shown_by results.now) in
+        let now = store.now.cycle + 1 in
+        option_map underway control.new.pending
         ≡ pending_with now delay before (first_some (λ t. controls (control_said t)) moves.now) }
     ensures last { stretch.new.last ≡ stretch.old.last }
     ensures within { stretch.new.end ≤ stretch.old.end }
-    ensures soon { now ≤ stretch.new.end }
-    ensures goes { GoesUntil stretch.new.end stretch.new.control }
+    ensures soon { store.now.cycle + 1 ≤ stretch.new.end }
+    ensures goes { GoesUntil stretch.new.end control.new }
 {
     if !moves.is_empty() {
-        stretch.take_move(acting_said(places, results, moves), now, delay);
+        let acting = acting_said(&store.places, results, moves);
+        stretch.take_move(control, acting, store.cycle + 1, delay);
     }
 }

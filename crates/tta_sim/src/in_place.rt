@@ -228,14 +228,15 @@ pub fn is_free(store: &Store, region: &Region, part: Part, control: &Control, ro
 #[inline(always)]
 pub fn carry_in_place(
     store: &mut Store,
+    control: &mut Control,
     stretch: &mut Stretch,
     region: &mut Region,
     context: &Context<'_>,
     row: &Row,
 ) -> bool
-    requires stretch { IsStretch store.old.cycle stretch.old }
+    requires stretch { IsStretch store.old.cycle control.old stretch.old }
     requires before { store.old.cycle < stretch.old.end }
-    requires ready { let old = kept_as store.old stretch.old.control region.old in
+    requires ready { let old = kept_as store.old control.old region.old in
         IsAtLine context.now.part (line_said row.now) old }
     requires own { IsWhole context.now.part region.old }
     requires order { is_in_order (line_said row.now) ≡ true }
@@ -244,13 +245,13 @@ pub fn carry_in_place(
     requires free { let r = results_at context.now.part region.old in
         list_any (clashes_with r) (starts_of_line store.old r (line_said row.now)) ≡ false }
     requires controls { (is_nil (line_said row.now).controls
-        || not (is_some stretch.old.control.pending)) ≡ true }
+        || not (is_some control.old.pending)) ≡ true }
     ensures last { stretch.new.last ≡ stretch.old.last }
-    ensures stretch { IsStretch store.new.cycle stretch.new }
+    ensures stretch { IsStretch store.new.cycle control.new stretch.new }
     ensures goes { result ≡ true → store.new.cycle < stretch.new.end }
     ensures cycle { (next : Option ℕ) → let U = stated unit_meaning context.now.units.now in
-        let old = kept_as store.old stretch.old.control region.old in
-        let new = kept_as store.new stretch.new.control region.new in
+        let old = kept_as store.old control.old region.old in
+        let new = kept_as store.new control.new region.new in
         let line = line_said row.now in
         IsCycle U context.now.part context.now.delay line next old new (Ran None false) }
 {
@@ -261,8 +262,8 @@ pub fn carry_in_place(
     let now = store.cycle + 1;
     let controls = row.controls.as_slice();
     let after = Results::of(region, part);
-    take_control(stretch, &store.places, &after, controls, now, context.delay);
+    take_control(stretch, control, store, &after, controls, context.delay);
     come_on(region);
     store.cycle = now;
-    stretch.advance(now)
+    stretch.advance(control, now)
 }

@@ -6,10 +6,10 @@ ghost use Rattle.tta_code.specs.Cycle.{State, next as next_state};
 ghost use Rattle.tta_sim.specs.Results.{HasUnits, units_of};
 ghost use Rattle.tta_list.specs.Iterate.{iterate};
 ghost use Rattle.tta_sim.specs.declared.stretch.Pace.TheVariants.{Goes};
-ghost use Rattle.tta_sim.specs.Controls.{cycles_in, IsStretch};
+ghost use Rattle.tta_sim.specs.Controls.{cycles_in};
 ghost use Rattle.tta_sim.specs.Held.{StandsWith, IsSilentRun, IsStateOf};
 ghost use Rattle.tta_sim.specs.Known.{all_shown, AreKnown};
-ghost use Rattle.tta_sim.specs.Kept.{steered, HasRows};
+ghost use Rattle.tta_sim.specs.Kept.{HasRows, HasStretch};
 
 use crate::control::Phase;
 use crate::decoded::Line;
@@ -72,27 +72,25 @@ impl SimState {
     ) -> Pace
         requires rows { HasRows basis.now.m.now basis.now.code.now self.old region.old rows.now }
         requires few { self.old.cycle < 2 ^ 62 }
-        requires stretch { IsStretch self.old.cycle stretch.old }
+        requires stretch { HasStretch self.old stretch.old }
         requires before { self.old.cycle < stretch.old.end }
         ensures rows { HasRows basis.now.m.now basis.now.code.now self.new region.new rows.now }
         ensures last { stretch.new.last ≡ stretch.old.last }
-        ensures stretch { IsStretch self.new.cycle stretch.new }
+        ensures stretch { HasStretch self.new stretch.new }
         ensures goes { result ≡ Goes → self.new.cycle < stretch.new.end }
         ensures counted { self.new.cycle ≡ self.old.cycle + cycles_in result }
         ensures next { let U = stated unit_meaning basis.now.units.now in
             let m = basis.now.m.now in
-            let old = steered self.old stretch.old.control in
-            let new = steered self.new stretch.new.control in
-            (s : State) → StandsWith (units_of 0 m region.old) old s
-            → IsSilentRun (StandsWith (units_of 0 m region.new) new) s
+            (s : State) → StandsWith (units_of 0 m region.old) self.old s
+            → IsSilentRun (StandsWith (units_of 0 m region.new) self.new) s
             (iterate (cycles_in result) (next_state U m basis.now.code.now) s) }
     {
-        let store = &mut self.run.store;
+        let run = &mut self.run;
         // So that it is known here that the machine's rules hold.
         let m = basis.m;
         m.rules();
         // There is a row for each instruction of the code.
-        let pc = stretch.control.pc as usize;
+        let pc = run.control.pc as usize;
         if pc >= rows.len() {
             return Pace::Stays;
         }
@@ -105,10 +103,17 @@ impl SimState {
             delay: m.control.delay,
             units: basis.units,
         };
-        if !is_free(store, region, context.part, &stretch.control, row) {
+        if !is_free(&run.store, region, context.part, &run.control, row) {
             return Pace::Stays;
         }
-        Pace::of(carry_in_place(store, stretch, region, &context, row))
+        Pace::of(carry_in_place(
+            &mut run.store,
+            &mut run.control,
+            stretch,
+            region,
+            &context,
+            row,
+        ))
     }
 
     /// Carries out the cycles of a stretch in place, or as many as there are until a line is not carried
@@ -123,17 +128,15 @@ impl SimState {
     )
         requires rows { HasRows basis.now.m.now basis.now.code.now self.old region.old rows.now }
         requires few { stretch.old.last < 2 ^ 62 }
-        requires stretch { IsStretch self.old.cycle stretch.old }
+        requires stretch { HasStretch self.old stretch.old }
         requires before { self.old.cycle < stretch.old.end }
         ensures rows { HasRows basis.now.m.now basis.now.code.now self.new region.new rows.now }
         ensures begun { self.old.cycle ≤ self.new.cycle }
         ensures within { self.new.cycle ≤ stretch.old.last }
         ensures next { let U = stated unit_meaning basis.now.units.now in
             let m = basis.now.m.now in
-            let old = steered self.old stretch.old.control in
-            let new = steered self.new stretch.new.control in
-            (s : State) → StandsWith (units_of 0 m region.old) old s
-            → IsSilentRun (StandsWith (units_of 0 m region.new) new) s
+            (s : State) → StandsWith (units_of 0 m region.old) self.old s
+            → IsSilentRun (StandsWith (units_of 0 m region.new) self.new) s
             (iterate (self.new.cycle - self.old.cycle) (next_state U m basis.now.code.now) s) }
     {
         'cycles: loop {
@@ -167,12 +170,11 @@ impl SimState {
             (iterate result (next_state U m basis.now.code.now) s) }
     {
         let begin = self.run.store.cycle;
-        let mut stretch = Stretch::of(self.run.control, begin, begin + most);
+        let mut stretch = Stretch::of(&self.run.control, begin, begin + most);
         if begin >= stretch.end {
             return 0;
         }
         self.stretch_in_place(&mut stretch, region, rows, basis);
-        self.run.control = stretch.control;
         self.run.store.cycle - begin
     }
 }

@@ -9,12 +9,10 @@ ghost use Rattle.tta_sim.specs.declared.stretch.Pace.TheVariants.{Goes};
 
 use crate::control::{Control, ControlMove, Pending, Phase};
 
-/// Control in cycles that are made one after another. Up to a cycle the run goes on, and no control move
-/// takes effect that is under way, so that none of them asks for that.
+/// Cycles that are made one after another. Up to a cycle the run goes on, and no control move takes effect
+/// that is under way, so that none of them asks for that.
 #[derive(Clone, Copy)]
 pub struct Stretch {
-    /// Control before the next cycle.
-    pub control: Control,
     /// The cycle up to which the run goes on and no control move takes effect.
     pub end: u64,
     /// The cycle up to which cycles are made in any case.
@@ -62,59 +60,64 @@ fn end_of(control: &Control, now: u64, last: u64) -> u64
 impl Stretch {
     /// The cycles from `now` up to `last`, of a run with this control.
     #[inline(always)]
-    pub fn of(control: Control, now: u64, last: u64) -> Stretch
+    pub fn of(control: &Control, now: u64, last: u64) -> Stretch
         requires { now ≤ last }
-        ensures control { result.control ≡ control }
         ensures last { result.last ≡ last }
-        ensures stretch { IsStretch now result }
+        ensures stretch { IsStretch now control.now result }
     {
-        let end = end_of(&control, now, last);
-        Stretch { control, end, last }
+        let end = end_of(control, now, last);
+        Stretch { end, last }
     }
 
     /// Takes the control move of a cycle, if any acted. The cycle after it is `now`.
     #[inline(always)]
-    pub fn take_move(&mut self, acting: Option<ControlMove>, now: u64, delay: u8)
+    pub fn take_move(
+        &mut self,
+        control: &mut Control,
+        acting: Option<ControlMove>,
+        now: u64,
+        delay: u8,
+    )
         requires few { now + 256 < 2 ^ 64 }
         requires soon { now ≤ self.old.end }
-        requires goes { GoesUntil self.old.end self.old.control }
-        ensures pc { self.new.control.pc ≡ self.old.control.pc }
-        ensures phase { self.new.control.phase ≡ self.old.control.phase }
-        ensures pending { let before = option_map underway self.old.control.pending in
-            option_map underway self.new.control.pending
+        requires goes { GoesUntil self.old.end control.old }
+        ensures pc { control.new.pc ≡ control.old.pc }
+        ensures phase { control.new.phase ≡ control.old.phase }
+        ensures pending { let before = option_map underway control.old.pending in
+            option_map underway control.new.pending
             ≡ pending_with now delay before (option_map kind_and_word acting) }
         ensures last { self.new.last ≡ self.old.last }
         ensures within { self.new.end ≤ self.old.end }
         ensures soon { now ≤ self.new.end }
-        ensures goes { GoesUntil self.new.end self.new.control }
+        ensures goes { GoesUntil self.new.end control.new }
     {
         if let Some(acting) = acting {
             let time = now + u64::from(delay);
-            self.control.pending = Some(Pending { time, acting });
+            control.pending = Some(Pending { time, acting });
             self.end = self.end.min(time);
         }
     }
 
     /// Goes on to the next cycle, which is `now`, and answers whether a cycle more is made.
     #[inline(always)]
-    pub fn advance(&mut self, now: u64) -> bool
-        requires within { self.old.control.pc + 1 < 2 ^ 32 }
+    pub fn advance(&mut self, control: &mut Control, now: u64) -> bool
+        requires within { control.old.pc + 1 < 2 ^ 32 }
         requires soon { now ≤ self.old.end }
         requires last { self.old.end ≤ self.old.last }
-        requires goes { GoesUntil self.old.end self.old.control }
+        requires goes { GoesUntil self.old.end control.old }
         ensures last { self.new.last ≡ self.old.last }
-        ensures stretch { IsStretch now self.new }
+        ensures stretch { IsStretch now control.new self.new }
         ensures goes { result ≡ true → now < self.new.end }
         ensures control { (s : State) → s.cycle ≡ now
-            → let p = option_map underway self.old.control.pending in
-            let outcome = outcome_of now self.old.control.phase in
-            let next = record s { pc = self.old.control.pc + 1; pending = p; outcome = outcome } in
-            controlled s self.new.control ≡ lands next p }
+            → let p = option_map underway control.old.pending in
+            let outcome = outcome_of now control.old.phase in
+            let next = record s { pc = control.old.pc + 1; pending = p; outcome = outcome } in
+            controlled s control.new ≡ lands next p }
     {
-        self.control.pc += 1;
+        control.pc += 1;
         if now == self.end {
-            self.control.land(now);
-            self.end = end_of(&self.control, now, self.last);
+            control.land(now);
+            self.end = end_of(control, now, self.last);
             return now < self.end;
         }
         true

@@ -128,7 +128,7 @@ pub returns-clause-cycle : goal.returns-clause-cycle
 returns-clause-cycle g c =
     let at : After-write_in_place g = (goal.at.returns-clause-cycle g c).After-write_in_place in
     let U : Units = stated (λ v. (goal.OpUnit-dyn g v).unit_meaning v.1) c.args.context.now.units.now in
-    let control : Control = c.args.stretch.now.control in
+    let control : Control = c.args.control.now in
     let line : Line = line_said c.args.row.now in
     let order : Ordered line = ordered line c.requires.order in
     let final : Store = record (c.start_in_place.new.store) { cycle = c.start_in_place.new.store.cycle + 1 } in
@@ -163,7 +163,7 @@ returns-clause-cycle g c =
           let begin = subst (λ new. Begin new (store g at).cycle (r g at) (results_at c.args.context.now.part c.come_on.new.region)) new_is
           (all_begun (store g at).cycle (r g at) moves_dues c.come_on.new.region moves_can (begun_at (store g at).cycle)) in
           carried_at U m decoded.rules i decoded.legal lines (store g at) (r g at) control s size same
-          none c.requires.ready.running final (results_at c.args.context.now.part c.come_on.new.region) c.advance.new.self.control brought begins None _ next false fed
+          none c.requires.ready.running final (results_at c.args.context.now.part c.come_on.new.region) c.advance.new.control brought begins None _ next false fed
           (sym (ap (list_any takes) (sym left.starts_are) ∙ plain.takes))
           refl refl refl back c.args.context.now.delay _ refl delay_is refl
           (λ ws had.

@@ -4,7 +4,6 @@ use Rattle.tta_sim.specs.Cited.{State, iterate, stated, next}
 use Rattle.tta_sim.specs.Results.{units_of}
 use Rattle.tta_sim.specs.Controls.{cycles_in}
 use Rattle.tta_sim.specs.Held.{StandsWith, IsSilentRun}
-use Rattle.tta_sim.specs.Kept.{steered}
 use Rattle.tta_sim.proofs.Owning.{one_at_most}
 use Rattle.tta_sim.proofs.Silent.{pure_more}
 use Rattle.tta_sim.proofs.state.SimState.stretch_in_place.Given as given
@@ -19,24 +18,20 @@ module _ (g : given.Over) (c : After-line_in_place g) where
 
   goes_on : let U = stated (λ v. (goal.OpUnit-dyn g v).unit_meaning v.1) c.args.basis.now.units.now in
       let m = c.args.basis.now.m.now in
-      let old = steered c.args.self.now c.args.stretch.now.control in
-      let new = steered c.line_in_place.new.self c.line_in_place.new.stretch.control in
-      (s : State) → StandsWith (units_of 0 m c.args.region.now) old s
-      → IsSilentRun (StandsWith (units_of 0 m c.line_in_place.new.region) new) s
+      (s : State) → StandsWith (units_of 0 m c.args.region.now) c.args.self.now s
+      → IsSilentRun (StandsWith (units_of 0 m c.line_in_place.new.region) c.line_in_place.new.self) s
       (iterate (c.line_in_place.new.self.cycle - c.args.self.now.cycle) (next U m c.args.basis.now.code.now) s)
   goes_on =
       let U = stated (λ v. (goal.OpUnit-dyn g v).unit_meaning v.1) c.args.basis.now.units.now in
       let m = c.args.basis.now.m.now in
       let step = next U m c.args.basis.now.code.now in
-      let between = steered c.cycles.self c.cycles.stretch.control in
-      let new = steered c.line_in_place.new.self c.line_in_place.new.stretch.control in
-      let Now = StandsWith (units_of 0 m c.line_in_place.new.region) new in
+      let Now = StandsWith (units_of 0 m c.line_in_place.new.region) c.line_in_place.new.self in
       let made = c.cycles.self.cycle - c.args.self.now.cycle in
       let more = cycles_in c.line_in_place.result in
       λ s same.
       subst (λ n. IsSilentRun Now s (iterate n step s)) made_is
       (subst (IsSilentRun Now s) (sym (iterate-add made more step s))
-      (pure_more (StandsWith (units_of 0 m c.cycles.region) between) Now s (iterate made step s) (iterate more step (iterate made step s))
+      (pure_more (StandsWith (units_of 0 m c.cycles.region) c.cycles.self) Now s (iterate made step s) (iterate more step (iterate made step s))
       (c.cycles.invariant.next s same) (c.line_in_place.ensures.next (iterate made step s))))
 
 pub cycles-preserved : goal.cycles-preserved

@@ -1,9 +1,8 @@
 use Rattle.std.proofs.Common.{◌≡◌, ◌-◌, ◌<◌, ◌≤◌}
 use Rattle.tta_sim.specs.Cited.{State, iterate, stated, next}
 use Rattle.tta_sim.specs.Results.{units_of}
-use Rattle.tta_sim.specs.Controls.{IsStretch}
 use Rattle.tta_sim.specs.Held.{StandsWith, IsSilentRun}
-use Rattle.tta_sim.specs.Kept.{steered, HasRows}
+use Rattle.tta_sim.specs.Kept.{HasRows, HasStretch}
 use Rattle.tta_sim.proofs.state.SimState.stretch_in_place.Given as goal
 
 abbrev pub decreases-cycles : goal.decreases-cycles
@@ -16,10 +15,10 @@ invariant-cycles g l =
     record {
       rows : HasRows m l.basis.code.now l.self l.region l.rows;
       last : l.stretch.last ≡ l.fn.stretch.last;
-      stretch : IsStretch l.self.cycle l.stretch;
+      stretch : HasStretch l.self l.stretch;
       before : l.self.cycle < l.stretch.end;
       begun : l.fn.self.cycle ≤ l.self.cycle;
-      next : (s : State) → StandsWith (units_of 0 m l.fn.region) (steered l.fn.self l.fn.stretch.control) s
-          → IsSilentRun (StandsWith (units_of 0 m l.region) (steered l.self l.stretch.control)) s
+      next : (s : State) → StandsWith (units_of 0 m l.fn.region) l.fn.self s
+          → IsSilentRun (StandsWith (units_of 0 m l.region) l.self) s
           (iterate (l.self.cycle - l.fn.self.cycle) (next U m l.basis.code.now) s);
     }
