@@ -139,14 +139,12 @@ pub record AgreesSo (put : List ℕ) (output : (others : List ℕ) → List ℕ)
 
 -- So it is at every clock with the words that each core puts out, which are those that pass through each queue that it feeds: of circuits
 -- with code that agrees with programs, joined by queues of any sizes, where the programs are given words from outside that begin with those
--- that have come. Code that agrees with a program meets no fault by itself, on any words that the program is given; that no core is at a
--- fault is asked of the words that cores feed one another.
+-- that have come. That no core meets a fault is not asked: no core of such code ever does (PairsNeverFault of tta_kahn).
 abbrev pub BoardAgrees : Type 0
 BoardAgrees =
     (u : Units) (pairs : List Pair) (feeds : List (Option ℕ)) (given : ℕ → List ℕ) (memories : ℕ → List ℕ) (k : ℕ → ℕ) (powers : Powers)
     (i : ℕ → Inputs) (last : ℕ) → AllByRecursion (IsPair u) pairs → ((core : ℕ) → AreWords (given core))
     → ((core : ℕ) (p : Pair) → slice_get pairs core ≡ Some p → memories core ≡ core_memory p)
-    → NeverFault u (map core_in pairs) feeds given (map core_memory pairs)
     → AreBoardClocks u (map core_in pairs) feeds memories k powers i last → (t : ℕ) → last < t
     → HasComeBy u (map core_in pairs) feeds given memories k powers i t → (core : ℕ) (p : Pair) → slice_get pairs core ≡ Some p
     → let programs = map (λ q. q.program) pairs in

@@ -26,8 +26,8 @@ pub fn board_settles()
     ensures { BoardSettles }
 {}
 
-/// As long as no core meets a fault, what circuits with code that agrees with programs put out begins
-/// what the programs put out, or the other way round, in whatever order the programs take their steps.
+/// What circuits with code that agrees with programs put out begins what the programs put out, or the
+/// other way round, in whatever order the programs take their steps.
 pub fn board_agrees()
     ensures { BoardAgrees }
 {}

@@ -1,10 +1,11 @@
 -- Cores and the programs that they agree with.
-use Rattle.std.proofs.Common.{◌≡◌, ℕ, zero, suc, ◌+◌, ◌*◌, List, [], ◌∷◌, ◌++◌, length, map, Option, Some, None, refl, sym, ap, subst, ◌∙◌}
+use Rattle.std.proofs.Common.{◌≡◌, ◌≢◌, ℕ, zero, suc, ◌+◌, ◌*◌, List, [], ◌∷◌, ◌++◌, drop, length, map, Option, Some, None, refl, sym, ap, subst, ◌∙◌}
 use Rattle.std.specs.Prelude.{slice_get, zip}
 use Rattle.std.specs.Option.{option_map_or}
 use Rattle.std.specs.List.{AllByRecursion}
+use Rattle.std.proofs.lemmas.Option.{same_Some}
 use Rattle.tta_list.proofs.Prefixes.{prefix_same, prefix_chain}
-use Rattle.tta_kahn.specs.Cited.{iterate, Units, Program, IsProgram, AreWords, IsGiven, code_at, program_at}
+use Rattle.tta_kahn.specs.Cited.{iterate, Units, Program, IsProgram, AreWords, IsGiven, Fault, code_at, program_at}
 use Rattle.tta_list.proofs.Lists.{all_one}
 use Rattle.tta_program.specs.Sequential as program
 use Rattle.tta_code.specs.Cycle.{State, next, start}
@@ -12,8 +13,10 @@ use Rattle.tta_kahn.specs.declared.cores.Core.{Core}
 use Rattle.tta_kahn.specs.Network.{Network, NetworkCore, output_of, feeder_of, fed_to, interleaved, joined}
 use Rattle.tta_kahn.specs.Cluster.{cycles_given, cycle_of, first_states}
 use Rattle.tta_kahn.specs.Programs as programs
-use Rattle.tta_kahn.specs.Laws.{IsCore, Pair, IsPair, core_in, core_memory, program_memory, CoresAgree}
+use Rattle.tta_kahn.specs.Laws.{IsCore, Pair, IsPair, core_in, core_memory, program_memory, CoresAgree, PairsNeverFault}
 use Rattle.tta_kahn.proofs.OneCore.{run, put_by}
+use Rattle.tta_kahn.proofs.Clusters.{HavePast}
+use Rattle.tta_kahn.proofs.Reaching.{past_of}
 use Rattle.tta_kahn.proofs.Meeting.{Does, reaches}
 use Rattle.tta_kahn.proofs.CoreQueues.{cores_use}
 use Rattle.tta_kahn.proofs.ProgramQueues.{programs_use}
@@ -180,6 +183,34 @@ module _ (u : Units) (pairs : List Pair) (feeds : List (Option ℕ)) (given : �
       by : (o : Option ℕ) → AreWords (option_map_or (output_of net (interleaved net (joined starts) steps)) o (given core))
       by None = given_words core
       by (Some feeder) = core_words steps feeder
+
+  -- ---- faults
+
+  -- A core is in a state of its own run on what feeds it, which are words.
+  no_fault : (steps : List ℕ) (core : ℕ) (j : NetworkCore State) → slice_get (interleaved net (joined starts) steps) core ≡ Some j
+      → (number at : ℕ) → j.state.outcome ≢ Fault number at
+  no_fault steps core j there number at is = by (slice_get starts core) refl where
+    after : List (NetworkCore State)
+    after = interleaved net (joined starts) steps
+
+    past : HavePast net starts after
+    past = past_of net (cores_use u cores cores_all feeds given) starts (cores_fresh u cores feeds given (map core_memory pairs)) steps
+
+    by : (o : Option State) → slice_get starts core ≡ o → ⊥
+    by None none = let e : None ≡ Some j = sym (past.none core none) ∙ there in cc
+    by (Some s) begins =
+        let has = past.each core s begins in
+        let of = of_core core s begins in
+        let fed = fed_to net after core in
+        let same : has.1.now ≡ j = same_Some has.1.now j (sym has.1.there ∙ there) in
+        let made : run net core (begin_core of.0) fed has.0 ≡ net.with_rest has.1.now.state (drop has.1.now.taken fed) =
+        ap (λ x. run net core x fed has.0) of.2 ∙ has.1.past.is in
+        let pair = all_one (IsPair u) pairs core of.0 all of.1 in
+        pair.agrees.no_fault of.0.memory fed has.0 number at (is_given core of.0 of.1 fed (does_too.inputs steps core))
+        (ap (λ x. x.outcome) (sym (core_run core of.0 of.1 fed has.0) ∙ made) ∙ ap (λ x. x.state.outcome) same ∙ is)
+
+pub pairs_never_fault : PairsNeverFault
+pairs_never_fault u pairs feeds given all words = no_fault u pairs feeds given all words
 
 pub cores_agree : CoresAgree
 cores_agree u pairs feeds given all words =

@@ -1,10 +1,11 @@
 -- The laws: the order in which cores make their steps makes no difference to what they output.
-use Rattle.std.specs.Prelude.{◌≡◌, ℕ, List, Option, map, length}
+use Rattle.std.specs.Prelude.{◌≡◌, ◌≢◌, ℕ, List, Option, Some, map, length, slice_get}
 use Rattle.std.specs.List.{AllByRecursion}
-use Rattle.tta_kahn.specs.Cited.{IsPrefixOf, Units, Machine, IsMachine, over, Program, data_of, IsProgram, IsLegalCode, Whole, data_in, AgreesAt, AreWords}
+use Rattle.tta_kahn.specs.Cited.{IsPrefixOf, Units, Machine, IsMachine, over, Program, data_of, IsProgram, IsLegalCode, Whole, data_in, AgreesAt, AreWords, Fault}
+use Rattle.tta_code.specs.Cycle.{State}
 use Rattle.tta_kahn.specs.declared.cores.Core.{Core}
-use Rattle.tta_kahn.specs.Network.{AreComparable}
-use Rattle.tta_kahn.specs.Cluster.{output_given, IsRestGiven}
+use Rattle.tta_kahn.specs.Network.{NetworkCore, AreComparable}
+use Rattle.tta_kahn.specs.Cluster.{cluster_given, output_given, IsRestGiven}
 use Rattle.tta_kahn.specs.Programs.{group_output, IsGroupRest}
 
 -- ---- two orders
@@ -81,3 +82,12 @@ abbrev pub CoresAgree : Type 0
 CoresAgree =
     (u : Units) (pairs : List Pair) (feeds : List (Option ℕ)) (given : ℕ → List ℕ) → AllByRecursion (IsPair u) pairs
     → ((core : ℕ) → AreWords (given core)) → PairsCompare u pairs feeds given
+
+-- No core of pairs is ever at a fault: in any order of cycles, whichever core feeds which, and on any words from outside. What cores feed
+-- one another are words, and on words code that agrees with a program meets no fault.
+abbrev pub PairsNeverFault : Type 0
+PairsNeverFault =
+    (u : Units) (pairs : List Pair) (feeds : List (Option ℕ)) (given : ℕ → List ℕ) → AllByRecursion (IsPair u) pairs
+    → ((core : ℕ) → AreWords (given core)) → (steps : List ℕ) (core : ℕ) (j : NetworkCore State)
+    → slice_get (cluster_given u (map core_in pairs) feeds given (map core_memory pairs) steps) core ≡ Some j
+    → (number at : ℕ) → j.state.outcome ≢ Fault number at

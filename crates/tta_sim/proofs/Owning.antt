@@ -29,10 +29,6 @@ one_at_most pace.Goes = omega arith
 one_at_most pace.Ends = omega arith
 one_at_most pace.Stays = omega arith
 
--- a region that is kept twice is kept
-pub kept_on : (old between new : Rings) → AreKept old between → AreKept between new → AreKept old new
-kept_on old between new first then = record { units = then.units ∙ first.units; longest = λ unit. then.longest unit ∙ first.longest unit }
-
 pub units_still : (base : ℕ) (m : Machine) (old new : Rings) → HasUnits base m old → AreKept old new → HasUnits base m new
 units_still base m old new has kept = record {
   few = has.few;

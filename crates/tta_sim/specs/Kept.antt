@@ -1,17 +1,18 @@
 -- How a run is kept, and what a cycle of it comes to.
 use Rattle.std.specs.Prelude.{◌≡◌, ℕ, ◌+◌, ◌<◌, ◌^◌, ◌++◌, List, length, Option, Some, is_none, Bool, true, false, not, ◌&&◌, option_map, option_to_list}
-use Rattle.tta_sim.specs.Cited.{Units, Machine, Instruction, State, Waiting, Fault, carry_out, Rings, IsFed, left}
+use Rattle.tta_sim.specs.Cited.{Units, Machine, Code, Instruction, State, Waiting, Fault, carry_out, Rings, IsFed, left}
 use Rattle.tta_sim.specs.declared.cycle_step.CycleStep.{CycleStep}
 use Rattle.tta_sim.specs.declared.cycle_step.CycleStep.TheVariants.{Ran, Halted as HadHalted, Waiting as Waits, Fault as Faults}
 use Rattle.tta_sim.specs.declared.decoded.Line.{Line}
+use Rattle.tta_sim.specs.declared.flat.Row.{Row}
 use Rattle.tta_sim.specs.declared.store.Store.{Store}
 use Rattle.tta_sim.specs.declared.control.Control.{Control}
 use Rattle.tta_sim.specs.declared.control.Phase.TheVariants.{Running}
 use Rattle.tta_sim.specs.declared.results.Part.{Part}
-use Rattle.tta_sim.specs.Held.{HeldState, StandsWith, GoesWith, is_fault, has_taken, cycles_of}
-use Rattle.tta_sim.specs.Results.{Results, AreThere, results_at}
+use Rattle.tta_sim.specs.Held.{HeldState, StandsWith, GoesWith, IsStateOf, is_fault, has_taken, cycles_of}
+use Rattle.tta_sim.specs.Results.{Results, AreThere, HasUnits, results_at}
 use Rattle.tta_sim.specs.Decoded.{IsDecoded}
-use Rattle.tta_sim.specs.Known.{KeepsWords}
+use Rattle.tta_sim.specs.Known.{all_shown, AreKnown, KeepsWords}
 use Rattle.tta_sim.specs.Lines.{IsLineThere}
 use Rattle.tta_sim.specs.Ready.{FitsLine, KeepsOthers}
 use Rattle.tta_sim.specs.Controls.{underway, outcome_of}
@@ -90,3 +91,10 @@ pub record IsCycle (U : Units) (part : Part) (delay : ℕ) (line : Line) (next :
   pub stays : answer ≡ Waits → new.region ≡ old.region
   pub others : KeepsOthers part old.region new.region
   pub words : KeepsWords old.store.places new.store.places (results_at part old.region) (results_at part new.region)
+
+-- A run has its code and each word of the spaces, its region has the units of its machine alone, and each line has its row.
+pub record HasRows (m : Machine) (code : Code) (h : HeldState) (region : Rings) (rows : List Row) : Type 0 where
+  pub loaded : IsStateOf m code h
+  pub has_units : HasUnits 0 m region
+  pub own : length region.rings ≡ length m.units
+  pub known : AreKnown h.places (all_shown region) h.lines rows

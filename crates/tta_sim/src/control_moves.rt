@@ -1,10 +1,11 @@
 //! The control moves of a decoded instruction.
 
-ghost use Rattle.std.specs.Prelude.{◌≡◌, option_map, IsTrue};
+ghost use Rattle.std.specs.Prelude.{◌≡◌, ◌+◌, ◌<◌, ◌≤◌, ◌^◌, option_map, IsTrue};
 ghost use Rattle.std.specs.List.{list_any, AllByRecursion};
 ghost use Rattle.tta_arch.specs.Effects.{first_some};
 ghost use Rattle.tta_sim.specs.Results.{shown_by};
 ghost use Rattle.tta_sim.specs.Starts.{kind_and_word};
+ghost use Rattle.tta_sim.specs.Controls.{underway, pending_with, GoesUntil};
 ghost use Rattle.tta_sim.specs.Lines.{is_unread, is_reading_there, is_control_there, control_brought};
 ghost use Rattle.tta_sim.specs.Lines.{controls_well, IsLineThere};
 ghost use Rattle.tta_sim.specs.Flat.{control_said};
@@ -16,6 +17,7 @@ use crate::known::read_said;
 use crate::lines::{Read, read_move};
 use crate::places::Places;
 use crate::results::Results;
+use crate::stretch::Stretch;
 
 /// Whether a move could not be read.
 fn is_unset(places: &Places, results: &Results<'_>, r: &Reading) -> bool
@@ -143,4 +145,35 @@ pub fn acting_said(
         }
     }
     None
+}
+
+/// Takes the control move of a line that acts, if any does. The cycle after it is `now`.
+#[inline(always)]
+pub fn take_control(
+    stretch: &mut Stretch,
+    places: &Places,
+    results: &Results<'_>,
+    moves: &[FlatControl],
+    now: u64,
+    delay: u8,
+)
+    requires there { AllByRecursion
+        (λ t. IsTrue (is_control_there results.now.units (control_said t))) moves.now }
+    requires few { now + 256 < 2 ^ 64 }
+    requires soon { now ≤ stretch.old.end }
+    requires goes { GoesUntil stretch.old.end stretch.old.control }
+    ensures pc { stretch.new.control.pc ≡ stretch.old.control.pc }
+    ensures phase { stretch.new.control.phase ≡ stretch.old.control.phase }
+    ensures pending { let before = option_map underway stretch.old.control.pending in
+        let controls = control_brought places.now (shown_by results.now) in
+        option_map underway stretch.new.control.pending
+        ≡ pending_with now delay before (first_some (λ t. controls (control_said t)) moves.now) }
+    ensures last { stretch.new.last ≡ stretch.old.last }
+    ensures within { stretch.new.end ≤ stretch.old.end }
+    ensures soon { now ≤ stretch.new.end }
+    ensures goes { GoesUntil stretch.new.end stretch.new.control }
+{
+    if !moves.is_empty() {
+        stretch.take_move(acting_said(places, results, moves), now, delay);
+    }
 }

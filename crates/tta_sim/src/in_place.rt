@@ -1,36 +1,32 @@
 //! Lines that are carried out move by move, each on what those before it left.
 
-ghost use Rattle.std.specs.Prelude.{◌≡◌, ◌+◌, ◌<◌, ◌≤◌, ◌^◌, ◌||◌, [], ◌∷◌, ℕ, Option, None};
-ghost use Rattle.std.specs.Prelude.{true, false, not, option_map};
+ghost use Rattle.std.specs.Prelude.{◌≡◌, ◌<◌, ◌||◌, [], ◌∷◌, ℕ, Option, None, true, false, not};
 ghost use Rattle.std.specs.Prelude.{fold, length, map, is_some, option_to_list, IsTrue};
 ghost use Rattle.std.specs.List.{filter_map, list_any, AllByRecursion};
 ghost use Rattle.tta_ops.specs.Set.{stated};
 ghost use Rattle.tta_arch.specs.Effects.{store_data, store_frame};
 ghost use Rattle.tta_arch.specs.Rules.{are_different};
-ghost use Rattle.tta_arch.specs.Effects.{first_some};
 ghost use Rattle.tta_flight.specs.Rings.{HaveCome};
 ghost use Rattle.tta_sim.specs.declared.cycle_step.CycleStep.TheVariants.{Ran};
 ghost use Rattle.tta_sim.specs.Decoded.{is_nil};
 ghost use Rattle.tta_sim.specs.Results.{results_at, shown_by, AreThere};
 ghost use Rattle.tta_sim.specs.Starts.{clashes_at, clashes_with};
-ghost use Rattle.tta_sim.specs.Controls.{underway, pending_with, GoesUntil, IsStretch};
+ghost use Rattle.tta_sim.specs.Controls.{IsStretch};
 ghost use Rattle.tta_sim.specs.Ready.{FitsLine};
 ghost use Rattle.tta_sim.specs.Kept.{kept_as, IsAtLine, IsCycle};
-ghost use Rattle.tta_sim.specs.Lines.{is_write_there, is_start_there, is_control_there};
-ghost use Rattle.tta_sim.specs.Lines.{write_brought, control_brought};
+ghost use Rattle.tta_sim.specs.Lines.{is_write_there, is_start_there, write_brought};
 ghost use Rattle.tta_sim.specs.Lines.{IsLineThere};
 ghost use Rattle.tta_sim.specs.Dues.{shown_from, started_at, CanAllBegin};
 ghost use Rattle.tta_sim.specs.Order.{is_touched, is_barred, is_in_order};
 ghost use Rattle.tta_sim.specs.Known.{is_known, is_start_known, is_settled};
-ghost use Rattle.tta_sim.specs.Flat.{reading_said, write_said, start_said, control_said};
-ghost use Rattle.tta_sim.specs.Flat.{line_said};
+ghost use Rattle.tta_sim.specs.Flat.{reading_said, write_said, start_said, line_said};
 ghost use Rattle.tta_sim.specs.InPlace.{starts_of_line, begun_here, dues_in, delay_now};
 ghost use Rattle.tta_sim.specs.InPlace.{IsWhole, AreWritten, CanStart, StartsNow, AreStarted};
 
 use crate::control::Control;
-use crate::control_moves::acting_said;
+use crate::control_moves::take_control;
 use crate::dues::{Due, result_of};
-use crate::flat::{FlatControl, FlatStart, FlatWrite, Row};
+use crate::flat::{FlatStart, FlatWrite, Row};
 use crate::known::{operand_known, read_known};
 use crate::places::Places;
 use crate::results::{Part, Results};
@@ -225,37 +221,6 @@ pub fn is_free(store: &Store, region: &Region, part: Part, control: &Control, ro
         return true;
     }
     !any_clash(&Results::of(region, part), row.starts.as_slice())
-}
-
-/// Takes the control move of a line that acts, if any does. The cycle after it is `now`.
-#[inline(always)]
-fn take_control(
-    stretch: &mut Stretch,
-    places: &Places,
-    results: &Results<'_>,
-    moves: &[FlatControl],
-    now: u64,
-    delay: u8,
-)
-    requires there { AllByRecursion
-        (λ t. IsTrue (is_control_there results.now.units (control_said t))) moves.now }
-    requires few { now + 256 < 2 ^ 64 }
-    requires soon { now ≤ stretch.old.end }
-    requires goes { GoesUntil stretch.old.end stretch.old.control }
-    ensures pc { stretch.new.control.pc ≡ stretch.old.control.pc }
-    ensures phase { stretch.new.control.phase ≡ stretch.old.control.phase }
-    ensures pending { let before = option_map underway stretch.old.control.pending in
-        let controls = control_brought places.now (shown_by results.now) in
-        option_map underway stretch.new.control.pending
-        ≡ pending_with now delay before (first_some (λ t. controls (control_said t)) moves.now) }
-    ensures last { stretch.new.last ≡ stretch.old.last }
-    ensures within { stretch.new.end ≤ stretch.old.end }
-    ensures soon { now ≤ stretch.new.end }
-    ensures goes { GoesUntil stretch.new.end stretch.new.control }
-{
-    if !moves.is_empty() {
-        stretch.take_move(acting_said(places, results, moves), now, delay);
-    }
 }
 
 /// Carries out a cycle of a stretch with a line in order, all of whose words are set, move by move. It

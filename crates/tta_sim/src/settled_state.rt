@@ -3,13 +3,13 @@
 ghost use Rattle.std.specs.Prelude.{◌≡◌, ◌+◌, ◌-◌, ◌<◌, ◌≤◌, ◌^◌, length};
 ghost use Rattle.tta_ops.specs.Set.{stated};
 ghost use Rattle.tta_code.specs.Cycle.{State, next as next_state};
-ghost use Rattle.tta_sim.specs.Results.{AreKept, HasUnits, units_of};
+ghost use Rattle.tta_sim.specs.Results.{HasUnits, units_of};
 ghost use Rattle.tta_list.specs.Iterate.{iterate};
 ghost use Rattle.tta_sim.specs.declared.stretch.Pace.TheVariants.{Goes};
 ghost use Rattle.tta_sim.specs.Controls.{cycles_in, IsStretch};
 ghost use Rattle.tta_sim.specs.Held.{StandsWith, IsSilentRun, IsStateOf};
-ghost use Rattle.tta_sim.specs.Kept.{steered};
 ghost use Rattle.tta_sim.specs.Known.{all_shown, AreKnown};
+ghost use Rattle.tta_sim.specs.Kept.{steered, HasRows};
 
 use crate::control::Phase;
 use crate::decoded::Line;
@@ -70,16 +70,11 @@ impl SimState {
         rows: &[Row],
         basis: &Basis<'_>,
     ) -> Pace
-        requires loaded { IsStateOf basis.now.m.now basis.now.code.now self.old }
-        requires has_units { HasUnits 0 basis.now.m.now region.old }
-        requires own { length region.old.rings ≡ length basis.now.m.now.units }
+        requires rows { HasRows basis.now.m.now basis.now.code.now self.old region.old rows.now }
         requires few { self.old.cycle < 2 ^ 62 }
-        requires known { AreKnown self.old.places (all_shown region.old) self.old.lines rows.now }
         requires stretch { IsStretch self.old.cycle stretch.old }
         requires before { self.old.cycle < stretch.old.end }
-        ensures loaded { IsStateOf basis.now.m.now basis.now.code.now self.new }
-        ensures kept { AreKept region.old region.new }
-        ensures known { AreKnown self.new.places (all_shown region.new) self.new.lines rows.now }
+        ensures rows { HasRows basis.now.m.now basis.now.code.now self.new region.new rows.now }
         ensures last { stretch.new.last ≡ stretch.old.last }
         ensures stretch { IsStretch self.new.cycle stretch.new }
         ensures goes { result ≡ Goes → self.new.cycle < stretch.new.end }
@@ -126,16 +121,11 @@ impl SimState {
         rows: &[Row],
         basis: &Basis<'_>,
     )
-        requires loaded { IsStateOf basis.now.m.now basis.now.code.now self.old }
-        requires has_units { HasUnits 0 basis.now.m.now region.old }
-        requires own { length region.old.rings ≡ length basis.now.m.now.units }
+        requires rows { HasRows basis.now.m.now basis.now.code.now self.old region.old rows.now }
         requires few { stretch.old.last < 2 ^ 62 }
-        requires known { AreKnown self.old.places (all_shown region.old) self.old.lines rows.now }
         requires stretch { IsStretch self.old.cycle stretch.old }
         requires before { self.old.cycle < stretch.old.end }
-        ensures loaded { IsStateOf basis.now.m.now basis.now.code.now self.new }
-        ensures kept { AreKept region.old region.new }
-        ensures known { AreKnown self.new.places (all_shown region.new) self.new.lines rows.now }
+        ensures rows { HasRows basis.now.m.now basis.now.code.now self.new region.new rows.now }
         ensures begun { self.old.cycle ≤ self.new.cycle }
         ensures within { self.new.cycle ≤ stretch.old.last }
         ensures next { let U = stated unit_meaning basis.now.units.now in
@@ -165,14 +155,9 @@ impl SimState {
         basis: &Basis<'_>,
         most: u64,
     ) -> u64
-        requires loaded { IsStateOf basis.now.m.now basis.now.code.now self.old }
-        requires has_units { HasUnits 0 basis.now.m.now region.old }
-        requires own { length region.old.rings ≡ length basis.now.m.now.units }
+        requires rows { HasRows basis.now.m.now basis.now.code.now self.old region.old rows.now }
         requires few { self.old.cycle + most < 2 ^ 62 }
-        requires known { AreKnown self.old.places (all_shown region.old) self.old.lines rows.now }
-        ensures loaded { IsStateOf basis.now.m.now basis.now.code.now self.new }
-        ensures kept { AreKept region.old region.new }
-        ensures known { AreKnown self.new.places (all_shown region.new) self.new.lines rows.now }
+        ensures rows { HasRows basis.now.m.now basis.now.code.now self.new region.new rows.now }
         ensures within { result ≤ most }
         ensures counted { self.new.cycle ≡ self.old.cycle + result }
         ensures next { let U = stated unit_meaning basis.now.units.now in

@@ -17,3 +17,4 @@ pub mod Parts
 pub mod OneTexts
 pub mod PrintedTexts
 pub mod PrintedPins
+pub mod OneFiles

@@ -1,5 +1,6 @@
 //! Laws of texts of machines. A law is a function that does nothing, and whose contract is the law.
 
+ghost use Rattle.tta_told.specs.Files.{OneFile};
 ghost use Rattle.tta_told.specs.Laws.{OneBoxedText, OneText, OneTrapText};
 ghost use Rattle.tta_told.specs.Pins.{PrintedPins};
 ghost use Rattle.tta_told.specs.Printed.{PrintedBoxedText, PrintedText};
@@ -32,4 +33,9 @@ pub fn printed_boxed_text()
 /// The ports of a printed module show the pins of its circuit, of which the laws of its runs speak.
 pub fn printed_pins()
     ensures { PrintedPins }
+{}
+
+/// Of one machine, the file of the code's words, which `rtl` writes beside a text, is that of one code.
+pub fn one_file()
+    ensures { OneFile }
 {}

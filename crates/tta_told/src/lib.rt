@@ -4,5 +4,6 @@
 mod laws;
 
 pub use laws::{
-    one_boxed_text, one_text, one_trap_text, printed_boxed_text, printed_pins, printed_text,
+    one_boxed_text, one_file, one_text, one_trap_text, printed_boxed_text, printed_pins,
+    printed_text,
 };

@@ -38,7 +38,7 @@ module _ (u : Units) (cores : List Core) (feeds : List (Option ℕ)) (takes_word
     (stopped : HasStopped cores (signals t))
     (whole : AllHasEntered cores feeds given (signals t)
     (λ core. entered_by u cores feeds takes_words memories k powers i signals core t)) where
-  made : (steps : List ℕ) × HasRunAsNet u cores feeds takes_words given memories spaces k powers i signals t steps
+  pub made : (steps : List ℕ) × HasRunAsNet u cores feeds takes_words given memories spaces k powers i signals t steps
   made =
       net_runs u cores feeds takes_words given memories spaces k powers i signals last all linked sized never clocks t late have
 
@@ -136,7 +136,7 @@ module _ (u : Units) (cores : List Core) (feeds : List (Option ℕ)) (takes_word
         ∙ ap (λ (x : NetworkCore State). is_halted x.state.outcome)
         (same_Some (made.1.run.stand.each core c there).now j (sym (made.1.run.stand.each core c there).there ∙ at)) ∙ goes_on)
 
-  rest : IsRestGiven u cores feeds given spaces steps
+  pub rest : IsRestGiven u cores feeds given spaces steps
   rest =
       board_finishes u cores feeds given memories spaces k powers i last all linked.count sized never on_board t steps late made.1.run still
       outs up room all_came

@@ -108,14 +108,13 @@ NetSettles =
 
 -- Beside the programs that cores agree with, the words that have gone to the outside at a core's ports begin what its program puts out in
 -- any order of steps, or the other way round; and where the programs are at rest, all of them are theirs. The programs are given words from
--- outside that begin with those that have come in. No core is at a fault, as in BoardAgrees.
+-- outside that begin with those that have come in. That no core meets a fault is not asked, as in BoardAgrees.
 abbrev pub NetAgrees : Type 0
 NetAgrees =
     (u : Units) (pairs : List Pair) (feeds : List (Option ℕ)) (takes : ℕ → Bool) (given : ℕ → List ℕ) (memories : ℕ → List ℕ)
     (k : ℕ → ℕ) (powers : Powers) (i : ℕ → Inputs) (signals : ℕ → Joint → ℕ) (last : ℕ) → AllByRecursion (IsPair u) pairs
     → AreLinked (map core_in pairs) feeds → ((core : ℕ) → AreWords (given core))
     → ((core : ℕ) (p : Pair) → slice_get pairs core ≡ Some p → memories core ≡ core_memory p)
-    → NeverFault u (map core_in pairs) feeds given (map core_memory pairs)
     → AreNetClocks u (map core_in pairs) feeds takes memories k powers i signals last → (t : ℕ) → last < t
     → HaveEntered u (map core_in pairs) feeds takes memories k powers i signals given t
     → (core : ℕ) (p : Pair) → slice_get pairs core ≡ Some p
@@ -124,3 +123,22 @@ NetAgrees =
     AgreesSo (passed_by u (map core_in pairs) feeds takes memories k powers i signals core t)
     (λ others. group_output u programs feeds given begin others core)
     (IsGroupRest u programs feeds given begin)
+
+-- Where links lead upwards, the module has stopped so, and all that cores are given has come in, the words that have gone to the outside at
+-- a core's ports are all that the program which the core agrees with puts out in any order of steps. That no core meets a fault is not
+-- asked.
+abbrev pub NetPutsAll : Type 0
+NetPutsAll =
+    (u : Units) (pairs : List Pair) (feeds : List (Option ℕ)) (takes : ℕ → Bool) (given : ℕ → List ℕ) (memories : ℕ → List ℕ)
+    (k : ℕ → ℕ) (powers : Powers) (i : ℕ → Inputs) (signals : ℕ → Joint → ℕ) (last : ℕ) → AllByRecursion (IsPair u) pairs
+    → AreLinked (map core_in pairs) feeds → ((core : ℕ) → AreWords (given core))
+    → ((core : ℕ) (p : Pair) → slice_get pairs core ≡ Some p → memories core ≡ core_memory p)
+    → AreNetClocks u (map core_in pairs) feeds takes memories k powers i signals last → AreUpwards feeds → (t : ℕ) → last < t
+    → HaveEntered u (map core_in pairs) feeds takes memories k powers i signals given t → HasStopped (map core_in pairs) (signals t)
+    → AllHasEntered (map core_in pairs) feeds given (signals t)
+    (λ core. entered_by u (map core_in pairs) feeds takes memories k powers i signals core t)
+    → (core : ℕ) (p : Pair) → slice_get pairs core ≡ Some p → (others : List ℕ)
+    → let programs = map (λ q. q.program) pairs in
+    let begin = map program_memory pairs in
+    IsPrefixOf (group_output u programs feeds given begin others core)
+    (passed_by u (map core_in pairs) feeds takes memories k powers i signals core t)

@@ -2,7 +2,7 @@
 //! contract is the law.
 
 ghost use Rattle.tta_wired.specs.Laws.{InputsComeIn, NetAgrees, NetFinishes, NetIsWired, NetRuns};
-ghost use Rattle.tta_wired.specs.Laws.{NetSettles};
+ghost use Rattle.tta_wired.specs.Laws.{NetPutsAll, NetSettles};
 ghost use Rattle.tta_wired.specs.Order.{NetIsOrdered};
 
 /// Circuits that are joined by the ports and wires of the module are wired as the theorem of such
@@ -30,9 +30,8 @@ pub fn net_is_ordered()
     ensures { NetIsOrdered }
 {}
 
-/// As long as no core meets a fault, the words that have gone to the outside at the ports of a core
-/// whose code agrees with a program begin what the program puts out, or the other way round, in
-/// whatever order the programs take their steps.
+/// The words that have gone to the outside at the ports of a core whose code agrees with a program begin
+/// what the program puts out, or the other way round, in whatever order the programs take their steps.
 pub fn net_agrees()
     ensures { NetAgrees }
 {}
@@ -46,4 +45,10 @@ pub fn net_settles()
 /// that its cores output in the network have gone to the outside.
 pub fn net_finishes()
     ensures { NetFinishes }
+{}
+
+/// Where it has stopped so, all words that the program of a core puts out have gone to the outside, of
+/// cores whose code agrees with programs.
+pub fn net_puts_all()
+    ensures { NetPutsAll }
 {}

@@ -12,6 +12,7 @@ use Rattle.tta_sim.specs.Held.{StandsWith, IsSilentRun}
 use Rattle.tta_sim.specs.Known.{all_shown, is_settled, Grows, IsMarked, IsKnown, AreKnown}
 use Rattle.tta_sim.proofs.Flats.{line_is}
 use Rattle.tta_sim.proofs.Going.{length-lines}
+use Rattle.tta_sim.proofs.Owning.{units_still}
 use Rattle.tta_sim.proofs.Marking.{get_or_same, known_kept}
 use Rattle.tta_sim.proofs.Reaching.{Reached, state_steered, at_line, code_stays, goes, answers}
 use Rattle.tta_sim.proofs.Silent.{silent_cycle}
@@ -31,7 +32,7 @@ module _ (g : given.Over) (c : After-m g) where
   l = get_or c.args.self.now.lines c.args.stretch.now.control.pc line
 
   within : c.args.stretch.now.control.pc < length c.args.self.now.lines
-  within = omega (arith, c.if-pc-rows.false, c.requires.known.count)
+  within = omega (arith, c.if-pc-rows.false, c.requires.rows.known.count)
 
   lines_are : c.args.self.now.lines ≡ c.self.inside.lines
   lines_are = sym (ap (λ h. h.lines) c.self.view_is)
@@ -41,14 +42,14 @@ module _ (g : given.Over) (c : After-m g) where
       c.self.inside.lines c.self.inside.run.store c.args.stretch.now.control c.m.inside.control.delay x
   reached_at x is = record {
     rules = subst IsMachine c.m.view_is c.m.invariant;
-    run = state_steered c.args.basis.now.m.now c.args.basis.now.code.now c.args.self.now c.args.stretch.now.control c.requires.loaded;
-    has = c.requires.has_units;
+    run = state_steered c.args.basis.now.m.now c.args.basis.now.code.now c.args.self.now c.args.stretch.now.control c.requires.rows.loaded;
+    has = c.requires.rows.has_units;
     part_is = c.part_of.ensures;
     view = ap (λ h. steered h c.args.stretch.now.control) c.self.view_is;
     running = (c.requires.stretch.goes c.requires.before).running;
     within =
-        let many = ap length c.requires.loaded.decoded ∙ length-lines c.args.basis.now.m.now (1 + c.args.basis.now.m.now.control.delay) c.args.basis.now.code.now.words in
-        omega (arith, c.if-pc-rows.false, many, c.requires.known.count);
+        let many = ap length c.requires.rows.loaded.decoded ∙ length-lines c.args.basis.now.m.now (1 + c.args.basis.now.m.now.control.delay) c.args.basis.now.code.now.words in
+        omega (arith, c.if-pc-rows.false, many, c.requires.rows.known.count);
     delay_is = ap (λ m. m.control.delay) c.m.view_is;
     line_is = is;
   }
@@ -57,7 +58,7 @@ module _ (g : given.Over) (c : After-m g) where
   known =
       let pc = c.args.stretch.now.control.pc in
       let less : pc < length c.args.rows.now = omega (arith, c.if-pc-rows.false) in
-      c.requires.known.each pc l row (slice_get-get_or c.args.self.now.lines pc line within)
+      c.requires.rows.known.each pc l row (slice_get-get_or c.args.self.now.lines pc line within)
       (slice_get-get_or c.args.rows.now pc row less ∙ ap Some (sym c.index-rows-pc.is))
 
   said : line ≡ l
@@ -104,22 +105,20 @@ carry_in_place-requires-clause-settled g c =
 
 -- ---- once it is carried out
 
-pub returns-clause-loaded : goal.returns-clause-loaded
-returns-clause-loaded g c =
+pub returns-clause-rows : goal.returns-clause-rows
+returns-clause-rows g c =
     let U = stated (λ v. (goal.OpUnit-dyn g v).unit_meaning v.1) c.args.basis.now.units.now in
-    state_steered c.args.basis.now.m.now c.args.basis.now.code.now _ c.self.inside.run.control
-    (code_stays (reached g (goal.at.returns-clause-loaded g c).After-m) U None _ _ _ _ (c.carry_in_place.ensures.cycle None))
-
-pub returns-clause-kept : goal.returns-clause-kept
-returns-clause-kept g c = (c.carry_in_place.ensures.cycle None).others.kept
-
-pub returns-clause-known : goal.returns-clause-known
-returns-clause-known g c =
-    let words = (c.carry_in_place.ensures.cycle None).words in
-    let before = subst (λ h. AreKnown h.places (all_shown c.args.region.now) h.lines c.args.rows.now) (sym c.self.view_is) c.requires.known in
-    known_kept c.self.inside.run.store.places c.carry_in_place.new.store.places (all_shown c.args.region.now) (all_shown c.carry_in_place.new.region) words.places
-    (subst (λ p. Grows (shown_by (results_at p c.args.region.now)) (shown_by (results_at p c.carry_in_place.new.region))) c.part_of.ensures words.ports)
-    c.self.inside.lines c.self.inside.lines refl c.args.rows.now before
+    let m = c.args.basis.now.m.now in
+    let made = c.carry_in_place.ensures.cycle None in
+    let before = subst (λ h. AreKnown h.places (all_shown c.args.region.now) h.lines c.args.rows.now) (sym c.self.view_is) c.requires.rows.known in
+    record {
+      loaded = state_steered m c.args.basis.now.code.now _ c.self.inside.run.control (code_stays (reached g (goal.at.returns-clause-rows g c).After-m) U None _ _ _ _ made);
+      has_units = units_still 0 m c.args.region.now c.carry_in_place.new.region c.requires.rows.has_units made.others.kept;
+      own = made.others.kept.units ∙ c.requires.rows.own;
+      known = known_kept c.self.inside.run.store.places c.carry_in_place.new.store.places (all_shown c.args.region.now) (all_shown c.carry_in_place.new.region) made.words.places
+          (subst (λ p. Grows (shown_by (results_at p c.args.region.now)) (shown_by (results_at p c.carry_in_place.new.region))) c.part_of.ensures made.words.ports)
+          c.self.inside.lines c.self.inside.lines refl c.args.rows.now before;
+    }
 
 pub returns-clause-counted : goal.returns-clause-counted
 returns-clause-counted g c = omega (arith, (c.carry_in_place.ensures.cycle None).counted, ap (λ h. h.cycle) c.self.view_is, c.of.ensures.made)

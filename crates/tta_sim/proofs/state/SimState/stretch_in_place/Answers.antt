@@ -1,11 +1,11 @@
-use Rattle.std.proofs.Common.{◌≡◌, ◌+◌, ◌-◌, ◌<◌, ◌≤◌, suc, sym, ap, ◌∙◌, subst, arith}
+use Rattle.std.proofs.Common.{◌≡◌, ◌+◌, ◌-◌, sym, ◌∙◌, subst, arith}
 use Rattle.tta_list.proofs.Iterated.{iterate-add}
 use Rattle.tta_sim.specs.Cited.{State, iterate, stated, next}
-use Rattle.tta_sim.specs.Results.{AreKept, units_of}
+use Rattle.tta_sim.specs.Results.{units_of}
 use Rattle.tta_sim.specs.Controls.{cycles_in}
 use Rattle.tta_sim.specs.Held.{StandsWith, IsSilentRun}
 use Rattle.tta_sim.specs.Kept.{steered}
-use Rattle.tta_sim.proofs.Owning.{units_still, one_at_most, kept_on}
+use Rattle.tta_sim.proofs.Owning.{one_at_most}
 use Rattle.tta_sim.proofs.Silent.{pure_more}
 use Rattle.tta_sim.proofs.state.SimState.stretch_in_place.Given as given
 use Rattle.tta_sim.proofs.state.SimState.stretch_in_place.Goals.{After-line_in_place}
@@ -13,9 +13,6 @@ use Rattle.tta_sim.proofs.state.SimState.stretch_in_place.Goals as goal
 
 -- once a line was carried out, or not
 module _ (g : given.Over) (c : After-line_in_place g) where
-  kept : AreKept c.args.region.now c.line_in_place.new.region
-  kept = kept_on c.args.region.now c.cycles.region c.line_in_place.new.region c.cycles.invariant.kept c.line_in_place.ensures.kept
-
   -- so many cycles were made since the begin
   made_is : c.cycles.self.cycle - c.args.self.now.cycle + cycles_in c.line_in_place.result ≡ c.line_in_place.new.self.cycle - c.args.self.now.cycle
   made_is = omega (arith, c.line_in_place.ensures.counted, c.cycles.invariant.begun)
@@ -46,11 +43,7 @@ pub cycles-preserved : goal.cycles-preserved
 cycles-preserved g c =
     let at = (goal.at.cycles-preserved g c).After-line_in_place in
     record {
-      loaded = c.line_in_place.ensures.loaded;
-      has_units = units_still 0 c.args.basis.now.m.now c.cycles.region c.line_in_place.new.region c.cycles.invariant.has_units c.line_in_place.ensures.kept;
-      own = c.line_in_place.ensures.kept.units ∙ c.cycles.invariant.own;
-      kept = kept g at;
-      known = c.line_in_place.ensures.known;
+      rows = c.line_in_place.ensures.rows;
       last = c.line_in_place.ensures.last ∙ c.cycles.invariant.last;
       stretch = c.line_in_place.ensures.stretch;
       before = c.line_in_place.ensures.goes c.in-Goes.is;
@@ -62,9 +55,7 @@ pub returns-in-Ends : goal.returns-in-Ends
 returns-in-Ends g c =
     let at = (goal.at.returns-in-Ends g c).After-line_in_place in
     record {
-      loaded = c.line_in_place.ensures.loaded;
-      kept = kept g at;
-      known = c.line_in_place.ensures.known;
+      rows = c.line_in_place.ensures.rows;
       begun = omega (arith, c.line_in_place.ensures.counted, c.cycles.invariant.begun);
       within =
           let few = one_at_most c.line_in_place.result in
