@@ -9,6 +9,7 @@ import subprocess
 
 import by_chance
 from built import PROGRAM, VIEW
+from by_chance import write
 from readers.bench import ran as evaluated
 from readers.circuit import Circuit
 from readers.machine import machine
@@ -36,11 +37,6 @@ IVERILOG = shutil.which("iverilog")
 def read(path):
     with open(path, "rb") as f:
         return f.read()
-
-
-def write(path, data):
-    with open(path, "wb") as f:
-        f.write(data)
 
 
 def call(program, *words):
