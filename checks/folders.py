@@ -18,6 +18,11 @@ def read(folder, name):
         return f.read()
 
 
+def files(folder):
+    """The bytes of every file of a folder by its name."""
+    return {name: read(folder, name) for name in os.listdir(folder)}
+
+
 def compared(cases):
     """Compares what the cases in a folder find with what they want, each with its name, tells those that differ, and gives the status of the check.
     The folder has a link to the examples."""
