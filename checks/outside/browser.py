@@ -95,6 +95,7 @@ class Browser:
         return [str(event) for event in wrong] + [url for url in asked if not url.startswith("file:") or url.endswith(".ico")]
 
     def close(self):
+        """Ends the browser, by force where it does not end by itself."""
         self.session = None
         try:
             self.call("Browser.close")

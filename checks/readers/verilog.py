@@ -8,6 +8,7 @@ class Reader(Expressions):
     """Reads modules and what they declare."""
 
     def module(self):
+        """Reads a module."""
         self.want("module")
         module, names = Module(self.name()), []
         self.want("(")
@@ -22,6 +23,7 @@ class Reader(Expressions):
         return module
 
     def declaration(self, module):
+        """Reads a declaration into a module: by its first word, or as an instance of another module."""
         kinds = {"input": self.port, "output": self.port, "wire": self.wire, "reg": self.register, "function": self.function,
                  "always": self.clocked, "assign": self.assigned, "integer": self.counter, "`include": self.included}
         kind = self.next()
@@ -50,6 +52,7 @@ class Reader(Expressions):
         self.want(";")
 
     def register(self, module, kind):
+        """Reads a register or a memory, with how its words begin."""
         width, name = self.range(), self.name()
         if self.takes(";"):
             return self.declare(module, module.registers, name, width)
@@ -80,6 +83,7 @@ class Reader(Expressions):
         return file
 
     def function(self, module, kind):
+        """Reads a function: a table, or an expression."""
         width, name, inputs = self.range(), self.name(), []
         self.want(";")
         while self.takes("input"):
@@ -95,6 +99,7 @@ class Reader(Expressions):
         self.declare(module, module.functions, f"own_{name}", Outside(32, [(32, "a"), (32, "b")]))
 
     def table(self, name, width, inputs):
+        """Reads the words of a table by their addresses."""
         self.want("(", inputs[0][1], ")")
         words = {}
         while not self.takes("default"):
@@ -129,6 +134,7 @@ class Reader(Expressions):
         return Function(width, inputs, [(*variable, made) for variable, made in zip(variables, words)], word)
 
     def clocked(self, module, kind):
+        """Reads what a register or a memory takes at a clock."""
         self.want("@", "(", "posedge", "clk", ")", "if", "(")
         enable = self.expression()
         self.want(")")
@@ -141,6 +147,7 @@ class Reader(Expressions):
         self.want(";")
 
     def assigned(self, module, kind):
+        """Reads what a port shows."""
         name = self.name()
         self.want("=")
         if name in module.shown:
@@ -149,6 +156,7 @@ class Reader(Expressions):
         self.want(";")
 
     def instance(self, module):
+        """Reads an instance of another module."""
         of, stages, joined = self.name(), None, {}
         if self.takes("#"):
             self.want("(", ".", "STAGES", "(")

@@ -73,6 +73,7 @@ class Expressions(Tokens):
     """Reads expressions, each by the level of its operator."""
 
     def expression(self):
+        """Reads an expression: a choice, or the operators from the loosest on."""
         test = self.level(0)
         if not self.takes("?"):
             return test
@@ -81,6 +82,7 @@ class Expressions(Tokens):
         return Select(test, on, self.expression())
 
     def level(self, k):
+        """Reads the operators from a level on."""
         if k == len(LEVELS):
             return self.operand()
         left = self.level(k + 1)
@@ -92,6 +94,7 @@ class Expressions(Tokens):
         return left
 
     def operand(self):
+        """Reads an operand of the tightest operator."""
         if self.takes("!"):
             return Not(self.operand())
         if self.takes("~"):

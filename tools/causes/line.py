@@ -172,6 +172,7 @@ def assignment_fault(tokens):
 
 
 def call_fault(tokens):
+    """What is wrong with a line that begins with `call`, or None."""
     if len(tokens) < 2:
         return f"after `call` comes the name of a procedure: {SHAPES['call']}"
     if not reader.is_own(tokens[1]):
