@@ -5,7 +5,7 @@ import sys
 
 ONE = re.compile(rb" line (\d+) : ")
 RANGE = re.compile(rb" lines (\d+) (\d+) ")
-READ, WRITE_FAULT = 1 << 24, 14
+READ = 1 << 24
 
 
 def places(path):

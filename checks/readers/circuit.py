@@ -118,6 +118,7 @@ class Words:
         return code
 
     def called(self, e):
+        """The code of a call of a function."""
         given = []
         for word, (width, name) in zip(e.given, self.module.functions[e.function].inputs):
             if self.width(word) > width:

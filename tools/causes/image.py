@@ -7,7 +7,7 @@ from causes import near
 from texts import machine as machine_reader
 from texts.tokens import lines_of
 
-MARK, DIGEST_AT, DIGEST_END, BITS_AT, COUNT_AT = b"TTAI", 16, 48, 8, 12
+DIGEST_AT, DIGEST_END, BITS_AT, COUNT_AT = 16, 48, 8, 12
 VERSION_AT, WITH_DATA, NUMBER, DATUM = 7, 2, 4, 8
 LONGEST_FILE = 1 << 24
 
