@@ -143,6 +143,7 @@ def found(work, *given):
 
 
 def of_text(said):
+    """The lines on a text that is refused: the line that is to be mended, and the cause."""
     name, table, finder = TEXTS[said.kind]
     path = said.path(name)
     is_short = path and os.path.isfile(path) and os.path.getsize(path) <= LONGEST_TEXT

@@ -3,7 +3,6 @@ program uses, and then makes changes by chance to machines that it has found, `-
 with that of `exec`, and one that is refused, not covered, or outputs anything else is dropped. It keeps the front of area against cycles.
 For a seed (`--seed S`) it finds the same, however many processors there are."""
 import math
-import os
 import random
 import tempfile
 

@@ -1,8 +1,6 @@
 """Tries machines: builds each program for one, runs the images, and compares what they output with `exec` on the first machine. A program in C is
 compiled once, for the first machine, so that all machines run the same text."""
 import os
-import subprocess
-import sys
 from collections import namedtuple
 from concurrent.futures import ThreadPoolExecutor
 
