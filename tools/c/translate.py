@@ -129,7 +129,9 @@ class Program:
     def largest_data(self):
         sizes = [(self.layout.cells(d), d.name[1:]) for d in self.module.data.values()]
         sizes += [(words, f"the stack of {' and '.join(f[1:] for f in group)}") for group, (_, words) in self.layout.stacks.items()]
-        return ", ".join(f"{name} with {n}" for n, name in sorted(sizes, reverse=True)[:3])
+        largest = sorted(sizes, reverse=True)[:3]
+        hint = "; --heap N gives malloc fewer bytes" if any(name == "heap" for _, name in largest) else ""
+        return ", ".join(f"{name} with {n}" for n, name in largest) + hint
 
     def fit(self, made):
         """Lets values share variables until the frame has room for all."""
