@@ -2,6 +2,7 @@
 import math
 import os
 import re
+import shutil
 import sys
 
 import c_runs
@@ -26,6 +27,17 @@ int main(void)
         tta_out((uint32_t)(a % b));
     }
     return 0;
+}
+"""
+# A word of the input as a plain char, in the data space, and shifted.
+CHAR = """#include "tta.h"
+int main(void)
+{
+    volatile char c = (char)tta_in();
+    tta_store(5, (uint32_t)c);
+    tta_out(tta_load(5));
+    tta_out((uint32_t)(c >> 1));
+    tta_halt();
 }
 """
 
@@ -55,6 +67,46 @@ def stacks(host, folder):
             except Wrong as e:
                 wrong.append(f"{what}: {e}")
     return wrong
+
+
+def several_stacks(host, folder):
+    """What is wrong with programs of several circles of calls on machines whose data space has little room for their stacks."""
+    source, wrong = Source([os.path.join(PROGRAMS, "several_stacks.c")]), []
+    wanted = host.output(source, None, folder)
+    with open(MACHINES[-1], encoding="utf-8") as f:
+        large = f.read()
+    for room in (177, 240, 299, 300, 301, 1001):
+        machine = os.path.join(folder, "room.machine")
+        with open(machine, "w") as f:
+            f.write(large.replace("space data 65536", f"space data {room}"))
+        for level in ("-O0", "-O2"):
+            try:
+                [(_, text)] = c_runs.texts(source, level, [None], folder, machine)
+                lines = c_runs.stepped(text, None, machine=machine)
+                c_runs.compare(lines, wanted, level)
+                c_runs.compiled(machine, text, None, folder, lines)
+            except Wrong as e:
+                wrong.append(f"several_stacks.c, {room} words of data, {level}: {e}")
+    return wrong
+
+
+def host_header(folder):
+    """What is wrong with tta.h for the host's compilers, and with plain char, which has no sign unless it is asked for one."""
+    path, given = os.path.join(folder, "char.c"), os.path.join(folder, "char.stream")
+    for name, what in ((path, CHAR), (given, "000000c8\n")):
+        with open(name, "w") as f:
+            f.write(what)
+    for option, wanted in (("-funsigned-char", ["200", "100"]), ("-fsigned-char", ["4294967240", "4294967268"]), (None, ["200", "100"])):
+        source = Source([path], [option] if option else [])
+        [(_, text)] = c_runs.texts(source, "-O2", [None], folder)
+        found = {"machine": [line for line in c_runs.stepped(text, given) if line.isdigit()]}
+        for compiler in filter(shutil.which, ("gcc", "clang") if option else ()):
+            made = os.path.join(folder, "char")
+            own = ["-std=c99", "-pedantic", "-Wall", "-Wextra", "-Werror", "-I", os.path.join(c_runs.TOOL, "include"), *source.flags]
+            _, _, error = c_runs.answer([compiler, *own, path, "-o", made])
+            with open(given) as words:
+                found[compiler] = error or c_runs.answer([made], stdin=words)[1].split()
+        yield from (f"host_header: {name} {option} gives {words}, and not {wanted}" for name, words in found.items() if words != wanted)
 
 
 def versions_told(folder):

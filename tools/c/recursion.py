@@ -41,7 +41,8 @@ def stack_of(program, number):
     room, groups = program.machine.data, len({tuple(g) for f, g in program.layout.group.items() if f in program.live})
     if program.stack_words or room is None:
         return program.stack_words or WORDS
-    return max(FEWEST, min(WORDS, (room - program.layout.top) // (groups - number + 1)))
+    left = groups - number + 1
+    return next((words for words in range(WORDS, FEWEST, -1) if program.layout.have_room(left, words, room)), FEWEST)
 
 
 class Group:

@@ -127,8 +127,11 @@ class Program:
             raise TooLong(f"the program has {about}{count} lines, and a text has at most {MOST_LINES}; the largest functions are {told}")
 
     def largest_data(self):
-        sizes = sorted(((self.layout.cells(d), d.name[1:]) for d in self.module.data.values()), reverse=True)[:3]
-        return ", ".join(f"{name} with {n}" for n, name in sizes)
+        sizes = [(self.layout.cells(d), d.name[1:]) for d in self.module.data.values()]
+        sizes += [(words, f"the stack of {' and '.join(f[1:] for f in group)}") for group, (_, words) in self.layout.stacks.items()]
+        largest = sorted(sizes, reverse=True)[:3]
+        hint = "; --heap N gives malloc fewer bytes" if any(name == "heap" for _, name in largest) else ""
+        return ", ".join(f"{name} with {n}" for n, name in largest) + hint
 
     def fit(self, made):
         """Lets values share variables until the frame has room for all."""
