@@ -9,7 +9,8 @@ import c_runs
 import llvm
 from constants import Constants
 from recursion import FULL
-from c_runs import FEW, MACHINES, PROGRAMS, TOP, Source, Wrong
+from c_runs import FEW, MACHINES, PROGRAMS, TOP, Wrong
+from clang import Source
 
 FLOATS = 100000
 # Two quotients and rests of 64 bits: -2 by 1, and 7 by -3.

@@ -5,7 +5,6 @@ import shutil
 import subprocess
 import sys
 import tempfile
-from collections import namedtuple
 
 HERE = os.path.dirname(os.path.abspath(__file__))
 TOP = os.path.normpath(os.path.join(HERE, ".."))
@@ -27,8 +26,6 @@ BOUND = "200000000"
 # The words of the frame space of each of the machines, which a text that is made for none has to do with.
 FRAME = 4096
 TIMEOUT = 200
-# The files of a program of C, and the flags that a compiler takes for them.
-Source = namedtuple("Source", "files flags", defaults=((),))
 
 
 class Wrong(Exception):
@@ -101,7 +98,7 @@ def texts(source, level, cells, folder, machine=None, version=None):
     unroll, machine = 60 if level == "-O3" else 0, Machine(machine)
     machine.frame = FRAME if machine.path is None else machine.frame
     try:
-        text = clang.Compiler(source.files, level, ["-w", *source.flags], folder, machine.lacks, version=version).text(1000, unroll)
+        text = clang.Compiler(source._replace(flags=["-w", *source.flags]), level, folder, machine.lacks, version).text(1000, unroll)
         for cell in cells:
             path = os.path.join(folder, f"text{cell or 0}")
             program, _ = translate.Program(text, machine, cell=cell).text()
