@@ -13,7 +13,10 @@ from c_runs import FEW, MACHINES, PROGRAMS, TOP, Wrong
 from clang import Source
 
 FLOATS = 100000
+# The tool as the script starts it: 0 is how many words the command that follows has beside its first.
+COMPILE = [sys.executable, os.path.join(c_runs.TOOL, "compile.py"), "0", "tta"]
 # Two quotients and rests of 64 bits: -2 by 1, and 7 by -3.
+WIDE_WORDS = "ffffffff\nfffffffe\n00000000\n00000001\n00000000\n00000007\nffffffff\nfffffffd\n"
 WIDE = """#include "tta.h"
 static int64_t wide(void)
 {
@@ -51,8 +54,8 @@ def stacks(host, folder):
     for machine in (*MACHINES, FEW):
         for stack, option in ((20, []), (60, []), (200, []), (2000, []), (2000, ["--unchecked-stack"])):
             text, what = os.path.join(folder, "s.program"), f"full_stack.c, {os.path.basename(machine)}, {stack} words {' '.join(option)}"
-            words = [sys.executable, os.path.join(c_runs.TOOL, "compile.py"), "0", "tta", "--layout", "--machine", machine, "--stack", str(stack), *option]
-            status, printed, error = c_runs.answer([*words, source, text])
+            words = [*COMPILE, "--layout", "--machine", machine, "--stack", str(stack), *option, source, text]
+            status, printed, error = c_runs.answer(words)
             found = re.search(rf"a stack of {stack} words: .* at (\d+)", printed)
             if status or not found:
                 wrong.append(f"{what}: status {status}, {error}")
@@ -116,7 +119,8 @@ def versions_told(folder):
         f.write("int main(void) { return 0; }\n")
     cases = [({"TTA_LLVM": "13"}, 0, "TTA_LLVM is 13: the versions 14 to 22 of LLVM are taken"), ({"TTA_LLVM": "new"}, 0, "TTA_LLVM is new"),
              ({"TTA_LLVM": ""}, 9, "clang is of version 9, which is too old"), ({"TTA_LLVM": ""}, 99, "clang is of version 99, which is too new"),
-             ({"TTA_LLVM": "17"}, 16, "TTA_LLVM is 17, and clang-17, llvm-link-17, opt-17 not found"), ({"TTA_LLVM": ""}, None, "clang, llvm-link, opt not found")]
+             ({"TTA_LLVM": "17"}, 16, "TTA_LLVM is 17, and clang-17, llvm-link-17, opt-17 not found"),
+             ({"TTA_LLVM": ""}, None, "clang, llvm-link, opt not found")]
     for k, (more, number, wanted) in enumerate(cases):
         path = os.path.join(folder, f"path{k}")
         os.mkdir(path)
@@ -124,8 +128,7 @@ def versions_told(folder):
             with open(os.path.join(path, name), "w") as f:
                 f.write(f"#!/bin/sh\necho Debian clang version {number}.0.1\n")
             os.chmod(os.path.join(path, name), 0o755)
-        words = [sys.executable, os.path.join(c_runs.TOOL, "compile.py"), "0", "tta", "v.c", "v.program"]
-        status, _, error = c_runs.answer(words, cwd=folder, env={**os.environ, **more, "PATH": path})
+        status, _, error = c_runs.answer([*COMPILE, "v.c", "v.program"], cwd=folder, env={**os.environ, **more, "PATH": path})
         if status != 1 or not error.startswith(f"tta c: {wanted}") or error.count("\n") != 1:
             yield f"version {number} {more}: status {status}, {error!r}"
 
@@ -148,7 +151,7 @@ def library_frames(folder):
         with open(FEW, encoding="utf-8") as f:
             text = f.read().replace("op ALU lt 1\n", "".join(f"op ALU {op} 1\n" for op in ["lt", *ops]))
         machine, source, given = (os.path.join(folder, name) for name in ("frames.machine", "frames.c", "frames.stream"))
-        for path, what in ((machine, text), (source, WIDE), (given, "ffffffff\nfffffffe\n00000000\n00000001\n00000000\n00000007\nffffffff\nfffffffd\n")):
+        for path, what in ((machine, text), (source, WIDE), (given, WIDE_WORDS)):
             with open(path, "w") as f:
                 f.write(what)
         [(_, made)] = c_runs.texts(Source([source]), "-O0", [None], folder, machine)

@@ -12,7 +12,8 @@ def states_of(lines, data):
         elif kind == "asked":
             names["asked"] = list(map(int, words))
         elif kind == "state":
-            states.append({"cycle": words[0], "address": words[1], "registers": [], "immediates": [], "results": [], "code": None, "more": [], "output": list(output),
+            states.append({"cycle": words[0], "address": words[1], "registers": [], "immediates": [], "results": [], "code": None, "more": [],
+                           "output": list(output),
                            "memory": [f"{address}: {word}" for address, word in sorted(memory.items())], "data": {**dict(enumerate(data)), **memory}})
         elif kind in ("registers", "results", "immediates"):
             states[-1][kind].append(words)
@@ -55,7 +56,8 @@ def register_rows(names, state):
 def moves_of(names, state):
     """The moves of the next instruction with their buses and how they are shown, those that are there."""
     moves = state["code"].removesuffix(" ;").partition(" [")[0].split(" , ") if state["code"] else []
-    return [(move.split(" ")[-3], move.split(" ")[-1], f"bus_{bus}", look(names, state, move)) for bus, move in zip(names["bus"], moves) if move != "..."]
+    pairs = [(bus, move, move.split(" ")) for bus, move in zip(names["bus"], moves) if move != "..."]
+    return [(words[-3], words[-1], f"bus_{bus}", look(names, state, move)) for bus, move, words in pairs]
 
 
 def picture(names, state, is_last):
@@ -69,7 +71,8 @@ def picture(names, state, is_last):
     parts = [*names.get("file", []), *names.get("imm", []), "gcu", *names["unit"]]
     words = {word: "" if is_last else f": {state['data'].get(int(word), 0)}" for _, _, word in active}
     loads = [f"reads {word}{words[word]}" for _, target, word in active if target.endswith(".t.ldw")]
-    return [word for _, _, word in active], [source for source, _, _, how in moves if how == "passed"], [part for part in parts if part in touched], loads
+    stopped = [source for source, _, _, how in moves if how == "passed"]
+    return [word for _, _, word in active], stopped, [part for part in parts if part in touched], loads
 
 
 def span(names, states, end):

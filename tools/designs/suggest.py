@@ -34,7 +34,8 @@ def asked_by(words):
             names.append(word)
     if len(names) != 2:
         given = f"{near.count(len(names), 'word')} given" + (f": {' '.join(names)}" if names else "")
-        raise explore.Faulty(f"suggest takes a machine and a program\n  its words are: suggest M P [--bound N], and there {'is' if len(names) == 1 else 'are'} {given}")
+        verb = "is" if len(names) == 1 else "are"
+        raise explore.Faulty(f"suggest takes a machine and a program\n  its words are: suggest M P [--bound N], and there {verb} {given}")
     for path, kind in zip(names, ("a machine", "a program")):
         if not os.path.isfile(path):
             is_folder = f"; {path} is a folder" if os.path.isdir(path) else ""

@@ -14,7 +14,7 @@ from texts.tokens import lines_of
 
 # A program: its name, the text that is built, the files of its data and input, and the digest of what it outputs.
 Program = namedtuple("Program", "name text data stream wanted")
-# What a machine came to: cycles of each program, words of each code, bits of an instruction; the images, where they are kept.
+# What a machine came to: cycles of each program, words of each code, bits of an instruction.
 Trial = namedtuple("Trial", "cycles words bits")
 FLAGS = {"load": "ldw", "store": "stw", "out": "out", "in": "in"}
 RELATIONS = {"eq": "eq", "ne": "eq", "lt": "lt", "ge": "lt", "ltu": "ltu", "geu": "ltu"}
@@ -69,7 +69,8 @@ class Trier:
             words = [self.program, "exec", machine, text, data, self.bound, *([stream] if stream else [])]
             ran = self.runs.run(words)
             if explore.why(ran.error) == "running":
-                raise Refused(f"{path}: running", [f"the program does not end within {self.bound} steps; --bound N takes more, and machines are compared by runs that end"])
+                more = f"the program does not end within {self.bound} steps; --bound N takes more, and machines are compared by runs that end"
+                raise Refused(f"{path}: running", [more])
             if ran.number_after("steps") is None or ran.status and explore.why(ran.error) not in ENDS:
                 raise refused_by(ran, words, path)
             self.programs.append(Program(name, text, data, stream, ran.output))
@@ -82,13 +83,15 @@ class Trier:
             return refused_by(told, words, path)
         broken = [line for line in told.output.decode("latin-1").split("\n") if line.startswith("rule ")]
         if broken:
-            return Refused(f"{path} is not covered: {broken[0]}", ["`build` compiles for covered machines alone; docs/COMMANDS.md, Coverage, has the rules"])
+            more = "`build` compiles for covered machines alone; docs/COMMANDS.md, Coverage, has the rules"
+            return Refused(f"{path} is not covered: {broken[0]}", [more])
         for program in self.programs:
             words = [self.program, "build", path, program.text, os.path.join(self.folder, "refused.image")]
             built = self.runs.run(words)
             if built.status:
                 return refused_by(built, words, f"{path} and {program.name}")
-        return Refused(f"{path} does not output what exec does, within the bound", [f"its run may take more than {self.bound} cycles; --bound N takes more"])
+        more = f"its run may take more than {self.bound} cycles; --bound N takes more"
+        return Refused(f"{path} does not output what exec does, within the bound", [more])
 
     def operations(self):
         """The operations that the programs use."""
