@@ -95,8 +95,8 @@ class Frames:
         return calls
 
     def ranks(self, calls):
-        """The rank of each function. What functions of the library call has at most theirs: at -O0 small functions of float.c stand for themselves,
-        and did they rank above the library, they and their callers would seem to call one another in a circle."""
+        """The rank of each function, which is no higher than that of a function of the library that calls it: at -O0 small functions of float.c stand
+        for themselves, and if they ranked above the library, they and their callers would seem to call one another in a circle."""
         found = {f: rank(f) for f in calls}
         work = [f for f in calls if f.startswith(RUN_TIME)]
         while work:

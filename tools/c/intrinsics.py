@@ -1,4 +1,5 @@
-"""The intrinsic functions of LLVM that calculate, as steps: minimum, rotation, counts of zeros, sums that are checked .."""
+"""The intrinsic functions of LLVM that calculate, as steps: minimum, rotation, counts of zeros, sums that are checked ..
+Those of two words stand in wide_intrinsics.py."""
 import copies
 import wide
 from ssa import M, Step

@@ -40,6 +40,7 @@ static s64 bounded(const char *a, char **end, int base, u64 most)
         found = most + negative;
     return negative ? -found : found;
 }
+/* A number without a sign; one with `-` before it is taken from the power of 2 above them all. */
 static u64 bounded_plain(const char *a, char **end, int base, u64 most)
 {
     int negative;
