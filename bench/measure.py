@@ -52,6 +52,7 @@ class Folder:
         return max(self.memory_of_run(words, status) for _ in range(3))
 
     def memory_of_run(self, words, status):
+        """The most memory that a command was seen to hold."""
         process, most, now = self.start(words), 0, 1
         while now:
             now = held(process)

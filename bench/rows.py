@@ -127,6 +127,7 @@ def read_program(folder, work):
 
 @dataclass
 class Row:
+    """A row of the table: what is measured, over how much work."""
     name: str
     work: int
     unit: str

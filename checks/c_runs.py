@@ -63,11 +63,6 @@ def words_of_32_bits():
         return ["-m32"] if made and answer([os.path.join(folder, "s")])[0] == 0 else []
 
 
-def several(source):
-    """A file, or a list of files, as a list."""
-    return source if isinstance(source, list) else [source]
-
-
 class Host:
     """The compiler of the host, which is not the one that is tried where there is gcc."""
 
@@ -76,11 +71,11 @@ class Host:
         # Floating point of 32-bit processors by the units of 64-bit ones: others round twice.
         self.narrow = [*words_of_32_bits(), *(["-msse2", "-mfpmath=sse"] if platform.machine() in ("x86_64", "i686") else [])]
 
-    def output(self, source, flags, stream, folder, timeout=TIMEOUT, optimize="-O1"):
+    def output(self, source, stream, folder, timeout=TIMEOUT):
         """The words that a program outputs on the host."""
         program = os.path.join(folder, "host")
-        own = ["-I", os.path.join(TOOL, "include"), "-w", "-fwrapv", "-fno-strict-aliasing", "-ffp-contract=off", *self.narrow, *flags]
-        status, _, error = answer([self.compiler, optimize, *own, *several(source), "-o", program, "-lm"])
+        own = ["-I", os.path.join(TOOL, "include"), "-w", "-fwrapv", "-fno-strict-aliasing", "-ffp-contract=off", *self.narrow, *source.flags]
+        status, _, error = answer([self.compiler, "-O1", *own, *source.files, "-o", program, "-lm"])
         if status:
             raise Wrong(f"the host's compiler refuses it: {error.splitlines()[0]}")
         with open(stream or os.devnull) as given:
@@ -89,23 +84,21 @@ class Host:
             raise Wrong(f"on the host it ends with {status}")
         return printed.split()
 
-
-    def undefined(self, source, flags, folder, timeout=TIMEOUT):
+    def undefined(self, source, folder, timeout=TIMEOUT):
         """What the host's compiler finds undefined as the program runs, or nothing: csmith takes places of packed fields, which need not be aligned."""
         program = os.path.join(folder, "checked")
-        own = ["-fsanitize=undefined", "-O1", "-w", "-I", os.path.join(TOOL, "include"), *self.narrow, *flags]
-        if answer([self.compiler, *own, source, "-o", program, "-lm"])[0]:
+        own = ["-fsanitize=undefined", "-O1", "-w", "-I", os.path.join(TOOL, "include"), *self.narrow, *source.flags]
+        if answer([self.compiler, *own, *source.files, "-o", program, "-lm"])[0]:
             return None
         return next((line for line in answer([program], timeout)[2].split("\n") if "runtime error" in line), None)
 
 
-def texts(source, level, flags, cells, folder, machine=None, version=None):
+def texts(source, level, cells, folder, machine=None, version=None):
     """The program's text at a level of LLVM, for each number of bytes that words are to hold (nothing: as the tool chooses)."""
-    flags = ["-w", *flags]
     unroll, machine = 60 if level == "-O3" else 0, Machine(machine)
     machine.frame = FRAME if machine.path is None else machine.frame
     try:
-        text = clang.Compiler(several(source), level, flags, folder, machine.lacks, version=version).text(1000, unroll)
+        text = clang.Compiler(source._replace(flags=["-w", *source.flags]), level, folder, machine.lacks, version).text(1000, unroll)
         for cell in cells:
             path = os.path.join(folder, f"text{cell or 0}")
             program, _ = translate.Program(text, machine, cell=cell).text()

@@ -53,6 +53,7 @@ class Reader:
         self.put = None
 
     def read(self, line):
+        """Takes a line: what it says by its first word."""
         mark, _, rest = line.partition(" ")
         if mark in ("|", ">"):
             self.put(rest + ("\n" if mark == "|" else ""))

@@ -50,6 +50,7 @@ def place(dest):
 
 
 def is_legal(moves):
+    """Whether the machine can carry out these moves in one cycle."""
     there = [m for m in moves if m]
     for name, limit in READS.items():
         if sum(source.startswith(name + ".") for _, source, _ in there) > limit:
@@ -62,6 +63,7 @@ def is_legal(moves):
 
 
 def instruction(bits, word):
+    """The moves and the long immediate of an instruction by its bits."""
     template, bits = take(bits, 1)
     long = None
     if template:

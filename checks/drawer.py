@@ -82,6 +82,7 @@ class Row:
 
 
 def machine_picture(m):
+    """The picture of a machine alone."""
     row = Row(m)
     for name, (width, size, reads, writes, out, into) in m.files.items():
         row.part(name, [f"registers {size}", f"bits {width}", f"reads {reads}", f"writes {writes}"], ("in", into), None, ("out", out))
@@ -158,6 +159,7 @@ class Sheet:
         return box(look, x, y, width, 20) + label("line", x + 4, y + 15, text)
 
     def row(self, k):
+        """The row of an instruction."""
         (moves, long), y = self.words[k], 208 + 24 * k
         text = box("row", 4, y, self.width - 8, 1) + label("note", 130, y + 17, k)
         columns = [self.first + (self.bus + 4) * bus for bus in range(len(self.m.buses))]

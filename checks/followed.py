@@ -2,14 +2,9 @@
 kept here."""
 import os
 import re
-import subprocess
 
 from built import PROGRAM
-
-
-def run(folder, *words):
-    r = subprocess.run(words, cwd=folder, capture_output=True, timeout=120, stdin=subprocess.DEVNULL)
-    return r.returncode, r.stdout.decode(), r.stderr.decode()
+from folders import run
 
 
 def replies_of(folder, m, words, stream, most):

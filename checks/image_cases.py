@@ -127,6 +127,14 @@ def cases():
     yield "an empty file", ONE, b"", "9", refused(40)
     yield "another version", ONE, SEVEN[:7] + b"\x09" + SEVEN[8:], "9", refused(41)
     yield "another width", ONE, SEVEN[:11] + b"\x0d" + SEVEN[12:], "9", refused(43)
+    yield from run_cases()
+    yield from data_cases()
+    yield from changed_cases()
+
+
+def run_cases():
+    """Images that are run, in the same form, and the order in which faults count."""
+    going = (12, "tta: running\n")
     yield "a long immediate and no end", THREE, LONG, "5", faulted("fault 65 2\ncycles 2\n", 65, 2)
     yield "a long immediate, as far as it goes", THREE, LONG, "2", (12, "running\ncycles 2\n", going[1])
     yield "two registers swapped", THREE, SWAP, "20", (0, "2\n1\nhalted\ncycles 8\n", "")
@@ -151,7 +159,10 @@ def cases():
     yield "no instruction", THREE, none, "9", faulted("fault 65 0\ncycles 0\n", 65, 0)
     two = image(THREE, 50, [word(move("S.0", "R.1"), move("S.1", "R.2"))])
     yield "a file read more often than it can be", THREE, two, "9", refused(46, 0, 0)
-    yield from data_cases()
+
+
+def changed_cases():
+    """Images of which a byte of the header is another, and the prefixes of images, in the same form."""
     for at in range(48):
         yield f"byte {at} changed", ONE, inverted(SEVEN, at, 1), "9", refused(header_code(at))
         yield f"byte {at} changed, with data", FOUR_WORDS, inverted(LAID, at, 1), "9", refused(header_code(at))

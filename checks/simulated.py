@@ -9,6 +9,7 @@ import subprocess
 
 import by_chance
 from built import PROGRAM, VIEW
+from by_chance import write
 from readers.bench import ran as evaluated
 from readers.circuit import Circuit
 from readers.machine import machine
@@ -36,11 +37,6 @@ IVERILOG = shutil.which("iverilog")
 def read(path):
     with open(path, "rb") as f:
         return f.read()
-
-
-def write(path, data):
-    with open(path, "wb") as f:
-        f.write(data)
 
 
 def call(program, *words):
@@ -120,10 +116,15 @@ def space_of(text):
 class Pair:
     """A machine and an image, which stand in the folder as M and IMG, with the words that they are given, and the two programs for them.
     The image may be compiled from the program P."""
-    marks = ()
+    marks, programs = (), (PROGRAM, VIEW)
 
-    def __init__(self, size, given, stream, bound, is_compiled=False, programs=(PROGRAM, VIEW)):
-        self.size, self.given, self.stream, self.bound, self.is_compiled, self.programs = size, given, stream, bound, is_compiled, programs
+    def __init__(self, size, given, stream, bound, is_compiled=False):
+        self.size, self.given, self.stream, self.bound, self.is_compiled = size, given, stream, bound, is_compiled
+
+    def by(self, programs):
+        """The pair, for two other programs."""
+        self.programs = programs
+        return self
 
     def ran(self, given, bound):
         """What `run` prints within the bound, and the bound; where the run faults, within as many cycles as come before the fault."""

@@ -3,11 +3,9 @@ that names a line of the program, or a range of such lines, where that is in C. 
 import re
 import sys
 
-import ending
-
 ONE = re.compile(rb" line (\d+) : ")
 RANGE = re.compile(rb" lines (\d+) (\d+) ")
-READ, WRITE_FAULT = 1 << 24, 14
+READ = 1 << 24
 
 
 def places(path):

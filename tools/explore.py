@@ -243,6 +243,7 @@ def say_what_lacks(extra, pairs):
 
 
 def explore(tta, words):
+    """The command: the status, once the table is told."""
     if "--search" in words:
         return importlib.import_module("designs.search").search(tta, words)
     try:

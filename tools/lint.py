@@ -39,6 +39,7 @@ def own_units(tta):
 
 
 def lint(tta, words):
+    """The command: the status, once all that is found is told."""
     if len(words) not in (1, 2):
         print("tta: usage\n  its words are: lint P\n  its words are: lint M P", file=sys.stderr)
         return USAGE

@@ -46,6 +46,7 @@ def definition(piece, what, lines):
 
 
 def function(module, piece, what, lines):
+    """The text of the function that puts a piece."""
     text = "".join(f"        {line}\\n\\\n" for line in lines)
     return f"""/// Puts {what}.
 #[tactic(auto, unfolding(crate::specs::{module}::{piece}_text))]

@@ -10,6 +10,7 @@ sys.path.insert(0, os.path.join(os.path.dirname(os.path.abspath(__file__)), "pla
 import ending
 import units
 from build import CannotBuild, alone, crates_of
+from clock import clock
 
 TOP = os.path.normpath(os.path.join(os.path.dirname(os.path.abspath(__file__)), ".."))
 BEGUN = re.compile(r"^rt: chose --jobs \d+ for (\w+)|^rt: (\w+): begins with|^crate (\w+):", re.M)
@@ -17,10 +18,6 @@ BEGUN = re.compile(r"^rt: chose --jobs \d+ for (\w+)|^rt: (\w+): begins with|^cr
 UNCHANGED = "rt: nothing has changed since the last proved build"
 LAST_LINES = 20
 CANNOT_BUILD = 70
-
-
-def clock(seconds):
-    return f"{int(seconds) // 60}:{int(seconds) % 60:02}"
 
 
 class Progress:

@@ -9,7 +9,7 @@ import files
 import formats
 import units
 import words as command_words
-from causes import assembly, coverage, fault, image, machine, near, program, walks
+from causes import assembly, coverage, fault, image, machine, near, program, rtl_words, walks
 from causes import words as input_words
 from texts import machine as machine_reader
 from texts import program as program_reader
@@ -143,6 +143,7 @@ def found(work, *given):
 
 
 def of_text(said):
+    """The lines on a text that is refused: the line that is to be mended, and the cause."""
     name, table, finder = TEXTS[said.kind]
     path = said.path(name)
     is_short = path and os.path.isfile(path) and os.path.getsize(path) <= LONGEST_TEXT
@@ -199,7 +200,8 @@ def of_reading(said):
     if said.kind == "too long":
         return [f"{named(at, said.counted)} has more than 16 MiB"]
     why = files.why_not_read(said.counted[at]) if at else None
-    return [f"{named(at, said.counted)} cannot be read{f': {why}' if why else ''}"]
+    lines = [f"{named(at, said.counted)} cannot be read{f': {why}' if why else ''}"]
+    return lines + rtl_words.of(said.words) if said.words[:2] == ["rtl", "net"] and said.counted is said.words else lines
 
 
 def of_writing(said):
@@ -223,6 +225,8 @@ def of_usage(said):
         if len(form) == len(words) and wrong:
             name, word = wrong[0]
             lines = [f"{word[:LONGEST]!r} stands where {name} has to be {ROUNDS if form[0] == 'net' else RANGES[name]}"]
+    if words[:1] == ["rtl"] and not lines:
+        lines = rtl_words.of(words)
     if words[:1] == ["circuit"] and len(words) == 2:
         lines = [f"the unit hands in no circuit of an operation {words[1][:LONGEST]!r}"]
     if not all(map(command_words.is_text, words)):

@@ -95,3 +95,5 @@ int main(void) { OUT(down((void *)down, tta_in() & 7)); OUT(call((void *)odd, 5)
 //// words by a number of bytes that has lost bits
 static uint32_t w[16]; static __attribute__((noinline)) uint32_t at(uint32_t x) { return *(uint32_t *)((char *)w + (x << 2)); } static __attribute__((noinline)) uint32_t by12(uint32_t x) { return *(uint32_t *)((char *)w + 12 * (x << 1 & 2)); }
 int main(void) { for (int k = 0; k < 16; k++) w[k] = tta_in(); for (int k = 0; k < 16; k++) { OUT(at(k | (tta_in() & 3) << 30)); OUT(by12(tta_in())); } }
+//// conditions that are turned round
+int main(void) { uint32_t n = tta_in(), last, k = 0; do { last = n & 1; n >>= 1; OUT(n); } while (!last && n); do { k++; if (!(n > 3)) OUT(k); int a = !n, b = !!n; OUT(a * 2 + b); OUT(!(k > 2) ? 7 : 8); } while (!(k == 4)); }

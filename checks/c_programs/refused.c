@@ -103,3 +103,7 @@ int main(void) { tta_out(tta_op_rotl(3, 4)); }
 // 3 r.c: [--stack 3] the stack has 3 words, and a first call of sum needs 
 static uint32_t sum(uint32_t n) { uint32_t a[3] = {n, n + 1, n * 3}; return n ? sum(n - 1) + a[n % 3] : 0; }
 int main(void) { tta_out(sum(tta_in())); }
+//// a heap for which a machine has no room
+// 3 r.c [--machine MACHINES/large.machine --heap 600000] --heap N gives malloc fewer bytes
+#include <stdlib.h>
+static char names[40]; int main(void) { char *p = malloc(tta_in()); p[0] = tta_in(); p[tta_in()] = 3; names[tta_in() & 31] = p[1]; tta_out(names[tta_in() & 31]); char *q = malloc(9); q[tta_in() & 7] = p[2]; tta_out(q[3]); }

@@ -8,7 +8,7 @@ import sys
 sys.dont_write_bytecode = True
 HERE = os.path.dirname(os.path.abspath(__file__))
 sys.path.insert(0, os.path.join(HERE, ".."))
-from built import IS_PROVED, PROGRAM, TOP, VIEW  # noqa: F401
+from built import PROGRAM, TOP, VIEW
 
 EXAMPLES = {"ONE": "one_bus.machine", "THREE": "three_buses.machine", "SEVEN": "seven.program", "DOT": "dot_product.program",
             "WORDS": "dot_product.input", "SORT": "sort.program", "SORTED": "sort.input", "GREATEST": "greatest.program", "OVERLAP": "overlap.assembly",
@@ -21,15 +21,6 @@ COMMANDS = ["build ONE SEVEN OUT", "build THREE DOT OUT", "build THREE GREATEST 
             "rtl THREE DOT", "cost THREE", "cost THREE IMG", "cost THREE DOT", "rtl net 4 NONE THREE IMG NONE THREE IMG NONE"]
 # The words that are commands of the second program.
 VIEWS = {"picture", "info", "profile", "play", "prompt", "stages", "rtl", "cost"}
-
-
-def folder(path):
-    """Every file of a folder."""
-    found = {}
-    for name in os.listdir(path):
-        with open(os.path.join(path, name), "rb") as f:
-            found[name] = f.read()
-    return found
 
 
 def put(path, name, data):

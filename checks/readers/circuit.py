@@ -5,7 +5,7 @@ import re
 import sys
 
 from readers.beside import beside
-from readers.verilog_forms import Binary, Call, Constant, Function, Invert, Join, Name, Not, Outside, Part, Read, Refused, Repeat, Select, Table
+from readers.verilog_forms import Binary, Call, Constant, Invert, Join, Name, Not, Outside, Part, Read, Refused, Repeat, Select, Table
 
 sys.setrecursionlimit(20_000)
 TESTS = {"==": "==", "!=": "!=", "<": "<", ">": ">"}
@@ -118,6 +118,7 @@ class Words:
         return code
 
     def called(self, e):
+        """The code of a call of a function."""
         given = []
         for word, (width, name) in zip(e.given, self.module.functions[e.function].inputs):
             if self.width(word) > width:

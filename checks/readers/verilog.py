@@ -1,149 +1,14 @@
 """A reader of the texts of circuits that `rtl` prints: the part of Verilog-2001 that docs/HARDWARE.md names, and no more. It is written
 from that grammar alone, and refuses whatever it does not name. `circuit.py` gives what is read a meaning."""
-import re
-
-from readers.verilog_forms import Binary, Call, Constant, Function, Instance, Invert, Join, Memory, Module, Name, Not, Outside, Part, Read, Refused, Repeat, Select, Table, Taken
-
-TOKEN = re.compile(r"\s*(?:(//[^\n]*\n)|([`$]\w+)|(\d+'[db][0-9]+)|([\x22]\w+\.(?:v|hex)[\x22])|(\d+)|([A-Za-z_]\w*)|(<=|\+:|&&|\|\||==|!=|<<|>>|[][(){}?:;,.=<>+\-*&|^~!@#]))")
-# Operators from the loosest to the tightest.
-LEVELS = (("||",), ("&&",), ("|",), ("^",), ("&",), ("==", "!="), ("<", ">"), ("<<", ">>"), ("+", "-"), ("*",))
+from readers.verilog_expressions import Expressions
+from readers.verilog_forms import Function, Instance, Memory, Module, Outside, Refused, Table, Taken
 
 
-class Reader:
-    """The tokens of a text, and where in them the reader is."""
-
-    def __init__(self, text):
-        self.text, self.at, self.tokens = text, 0, []
-        place = 0
-        while text[place:].strip():
-            found = TOKEN.match(text, place)
-            if not found:
-                raise Refused(f"line {text.count(chr(10), 0, place) + 1}: {text[place:place + 20]!r}")
-            if not found[1]:
-                self.tokens.append((found[0].strip(), found.start(found.lastindex)))
-            place = found.end()
-
-    def next(self):
-        return self.tokens[self.at][0] if self.at < len(self.tokens) else ""
-
-    def refuse(self, wanted):
-        place = self.tokens[self.at][1] if self.at < len(self.tokens) else len(self.text)
-        raise Refused(f"line {self.text.count(chr(10), 0, place) + 1}: {wanted} and not {self.next()!r}")
-
-    def takes(self, word):
-        """Whether the next token is this one, which is then passed."""
-        if self.next() != word:
-            return False
-        self.at += 1
-        return True
-
-    def want(self, *words):
-        for word in words:
-            if not self.takes(word):
-                self.refuse(repr(word))
-
-    def matching(self, pattern, what):
-        found = re.fullmatch(pattern, self.next())
-        if not found:
-            self.refuse(what)
-        self.at += 1
-        return found
-
-    def name(self):
-        return self.matching(r"[A-Za-z_]\w*", "a name")[0]
-
-    def number(self):
-        return int(self.matching(r"\d+", "a number")[0])
-
-    def constant(self):
-        found = self.matching(r"(\d+)'([db])(\d+)", "a constant")
-        width, word = int(found[1]), int(found[3], 10 if found[2] == "d" else 2)
-        if not width or word >> width:
-            raise Refused(f"{found[0]}: no word of so many bits")
-        return Constant(width, word)
-
-    def range(self):
-        """How many bits a range says."""
-        self.want("[")
-        high = self.number()
-        self.want(":", "0", "]")
-        return high + 1
-
-    # ---- expressions
-
-    def expression(self):
-        test = self.level(0)
-        if not self.takes("?"):
-            return test
-        on = self.expression()
-        self.want(":")
-        return Select(test, on, self.expression())
-
-    def level(self, k):
-        if k == len(LEVELS):
-            return self.operand()
-        left = self.level(k + 1)
-        while self.next() in LEVELS[k]:
-            sign = self.next()
-            self.at += 1
-            is_distance = sign in ("<<", ">>") and re.fullmatch(r"\d+", self.next())
-            left = Binary(sign, left, Constant(32, self.number()) if is_distance else self.level(k + 1))
-        return left
-
-    def operand(self):
-        if self.takes("!"):
-            return Not(self.operand())
-        if self.takes("~"):
-            return Invert(self.operand())
-        if self.takes("("):
-            inside = self.expression()
-            self.want(")")
-            return inside
-        if self.takes("{"):
-            return self.joined()
-        if "'" in self.next():
-            return self.constant()
-        name = self.name()
-        if self.takes("("):
-            given = [self.expression()]
-            while self.takes(","):
-                given.append(self.expression())
-            self.want(")")
-            return Call(name, given)
-        return self.part(name) if self.takes("[") else Name(name)
-
-    def joined(self):
-        """What stands in braces, of which the first is passed: words that are joined, or one that is repeated."""
-        if re.fullmatch(r"\d+", self.next()):
-            times = self.number()
-            self.want("{")
-            part = self.expression()
-            self.want("}", "}")
-            return Repeat(times, part)
-        parts = [self.expression()]
-        while self.takes(","):
-            parts.append(self.expression())
-        self.want("}")
-        return Join(parts)
-
-    def part(self, name):
-        """A part of what has a name, or the word of a memory at an address; the bracket is passed."""
-        first = self.number() if re.fullmatch(r"\d+", self.next()) else self.expression()
-        if self.takes("+:"):
-            part = Part(name, first, self.number())
-        elif self.takes(":"):
-            low = self.number()
-            part = Part(name, low, first - low + 1)
-        else:
-            part = Part(name, first, 1) if isinstance(first, int) else Read(name, first)
-        self.want("]")
-        if isinstance(part, Part) and not (isinstance(part.low, int) and part.width > 0):
-            self.refuse("a part from a number on, of one bit or more")
-        return part
-
-    # ---- declarations
+class Reader(Expressions):
+    """Reads modules and what they declare."""
 
     def module(self):
+        """Reads a module."""
         self.want("module")
         module, names = Module(self.name()), []
         self.want("(")
@@ -158,6 +23,7 @@ class Reader:
         return module
 
     def declaration(self, module):
+        """Reads a declaration into a module: by its first word, or as an instance of another module."""
         kinds = {"input": self.port, "output": self.port, "wire": self.wire, "reg": self.register, "function": self.function,
                  "always": self.clocked, "assign": self.assigned, "integer": self.counter, "`include": self.included}
         kind = self.next()
@@ -186,6 +52,7 @@ class Reader:
         self.want(";")
 
     def register(self, module, kind):
+        """Reads a register or a memory, with how its words begin."""
         width, name = self.range(), self.name()
         if self.takes(";"):
             return self.declare(module, module.registers, name, width)
@@ -216,6 +83,7 @@ class Reader:
         return file
 
     def function(self, module, kind):
+        """Reads a function: a table, or an expression."""
         width, name, inputs = self.range(), self.name(), []
         self.want(";")
         while self.takes("input"):
@@ -231,6 +99,7 @@ class Reader:
         self.declare(module, module.functions, f"own_{name}", Outside(32, [(32, "a"), (32, "b")]))
 
     def table(self, name, width, inputs):
+        """Reads the words of a table by their addresses."""
         self.want("(", inputs[0][1], ")")
         words = {}
         while not self.takes("default"):
@@ -265,6 +134,7 @@ class Reader:
         return Function(width, inputs, [(*variable, made) for variable, made in zip(variables, words)], word)
 
     def clocked(self, module, kind):
+        """Reads what a register or a memory takes at a clock."""
         self.want("@", "(", "posedge", "clk", ")", "if", "(")
         enable = self.expression()
         self.want(")")
@@ -277,6 +147,7 @@ class Reader:
         self.want(";")
 
     def assigned(self, module, kind):
+        """Reads what a port shows."""
         name = self.name()
         self.want("=")
         if name in module.shown:
@@ -285,6 +156,7 @@ class Reader:
         self.want(";")
 
     def instance(self, module):
+        """Reads an instance of another module."""
         of, stages, joined = self.name(), None, {}
         if self.takes("#"):
             self.want("(", ".", "STAGES", "(")

@@ -1,7 +1,7 @@
 """What walks of code have, each taken by itself: a search through all of them, written apart from the program as plainly as can be. A
 walk forgets words: it keeps which places were written, when results are due, and the words that the code itself gives."""
 from itertools import product
-from typing import NamedTuple
+from typing import NamedTuple, Optional
 
 from readers.assembly import Tokens, data_of, instruction_of
 from readers.tokens import ARITY
@@ -11,7 +11,7 @@ class Walk(NamedTuple):
     """Where a walk stands. What is under way is a pair: how many instructions are carried out before it takes effect, and its target
     or "halt". A due is a unit with the cycles that its result is still away, 0 once it has come."""
     address: int
-    under: tuple | None
+    under: Optional[tuple]
     written: frozenset
     dues: frozenset
     known: frozenset

@@ -201,9 +201,9 @@ class Arithmetic:
                 return got
             d = self.memory.defs.get((self.f.name, v[1]))
             if d is not None and d.op == "bin" and d.kind == "xor" and d.b == ("int", 1) and d.a[0] == "local":
-                got = self.conds.get(d.a[1])
-                if isinstance(got, tuple):
-                    rel, a, b = self.o.relation(*got)
+                inner = self.conds.get(d.a[1])
+                if isinstance(inner, tuple) or inner is not None and self.bits(inner.of) <= 32:
+                    rel, a, b = self.o.relation(*(inner if isinstance(inner, tuple) else self.compared(inner)))
                     return OPPOSITE[rel], a, b
             if got is not None and self.bits(got.of) <= 32:
                 return self.compared(got)

@@ -99,8 +99,11 @@ class Bounds:
         lo, hi = self.with_sign(a)
         return -(1 << 31) <= lo << k and hi << k < 1 << 31
 
-    def clamp(self, rel, x, y, a, b, r):
-        """Tighter bounds where one of two words is chosen by a comparison of itself with a number."""
+    def of_choice(self, condition, a, b):
+        """The bounds of one of two words, chosen by a relation of two others: tighter where it compares one of the two with a number."""
+        rel, x, y = condition
+        p, q = self.bounds(a), self.bounds(b)
+        r = min(p[0], q[0]), max(p[1], q[1])
         if not isinstance(y, int) or x not in (a, b) or rel not in ("lt", "ge", "ltu", "geu"):
             return r
         chosen = rel if x == a else OPPOSITE[rel]

@@ -9,7 +9,7 @@ import os
 import re
 import subprocess
 import sys
-import tempfile
+from collections import namedtuple
 from concurrent.futures import ThreadPoolExecutor
 
 import floats
@@ -44,18 +44,22 @@ def check(done):
     sys.stderr.write(done.stderr)
 
 
+# The files of a program of C, the flags that a compiler takes for them, and how many bytes `malloc` has, where that is said.
+Source = namedtuple("Source", "files flags heap", defaults=((), None))
+
+
 class Compiler:
     """The files of a program as one module, of which texts at several limits can be asked."""
 
-    def __init__(self, files, level, flags, folder, lacks=(), heap=None, version=None):
+    def __init__(self, source, level, folder, lacks=(), version=None):
         self.level, self.folder, self.llvm = level, folder, version or llvm.found()
         self.clang_level = clang_level = "-O1" if level == "-O0" else level
-        sources = [*files, os.path.join(HERE, "library.c")]
+        sources = [*source.files, os.path.join(HERE, "library.c")]
         made = [os.path.join(folder, f"{k}.ll") for k in range(len(sources))]
         include = ["-I", os.path.join(HERE, "include"), "-I", os.path.join(HERE, "headers")]
 
         def compile_one(k):
-            own = flags if k < len(files) else [f"-DTTA_HEAP={heap}"] if heap is not None else []
+            own = source.flags if k < len(source.files) else [f"-DTTA_HEAP={source.heap}"] if source.heap is not None else []
             return ask([self.llvm.clang, clang_level, *CLANG, *include, *own, sources[k], "-o", made[k]])
         with ThreadPoolExecutor(os.cpu_count() or 1) as workers:
             for done in list(workers.map(compile_one, range(len(sources)))):
@@ -115,9 +119,3 @@ def needed(text):
         yield RUN_TIME[1:] + kind
     for name in floats.needed(text):
         yield RUN_TIME[1:] + name
-
-
-def represent(files, level, flags, inline, unroll):
-    """The text of a program, for a use that needs one alone."""
-    with tempfile.TemporaryDirectory() as folder:
-        return Compiler(files, level, flags, folder).text(inline, unroll)

@@ -42,7 +42,7 @@ def program_of(o, machine, folder):
     tried = attempts(o)
     for level, inline in tried:
         if level not in compilers:
-            compilers[level] = clang.Compiler(o.files, level, [*known, *o.flags], folder, machine.lacks, o.heap)
+            compilers[level] = clang.Compiler(clang.Source(o.files, [*known, *o.flags], o.heap), level, folder, machine.lacks)
         text = compilers[level].text(inline, o.unroll if o.unroll is not None else 60 if level == "-O3" else 0)
         # What is hardly shorter than a text that was too long is not worked through again.
         if too_long and len(text) > 0.9 * too_long[0]:
@@ -50,7 +50,7 @@ def program_of(o, machine, folder):
         if o.keep:
             write(o.keep, text)
         try:
-            made = translate.Program(text, machine, base=o.base, cell=o.cell, stack=o.stack, stack_checked=o.stack_checked)
+            made = translate.Program(text, machine, o.cell, translate.Room(o.base, o.stack, o.stack_checked))
             program, places = made.text()
         except translate.TooLong as e:
             too_long = len(text), e

@@ -26,7 +26,7 @@ def lower(l, i, name):
     if c2 is not c:
         l.refuse(f"{kind} between places of two classes: an error of this tool")
     whole = whole and l.rest(b2, o2, second, c) == 0
-    return copy(l, kind, to, second, count, c, whole)
+    return copy(l, kind, [start(l, v, c, whole) for v in (to, second)], count, c, whole)
 
 
 def start(l, v, c, whole):
@@ -58,9 +58,10 @@ def fill(l, to, byte, count, c, whole):
     loop(l, n, [at], lambda places: put(places[0]))
 
 
-def copy(l, kind, to, second, count, c, whole):
-    o = l.o
-    a, b, n = start(l, to, c, whole), start(l, second, c, whole), words_of(l, count, c, whole)
+def copy(l, kind, starts, count, c, whole):
+    """Words or bytes from the second of two begins, put at the first."""
+    o, (a, b) = l.o, starts
+    n = words_of(l, count, c, whole)
     get = (lambda x: o.load(x)) if whole else (lambda x: l.part(x, c))
     put = (lambda x, w: o.store(x, w)) if whole else (lambda x, w: l.store_part(x, w, 1, c))
     if isinstance(n, int) and n <= UNROLLED:

@@ -89,9 +89,23 @@ class Frames:
             for f, _ in sites:
                 calls[f].add(g)
         library = {f for f in calls if f.startswith(RUN_TIME)}
+        ranks = self.ranks(calls)
         for f in calls:
-            calls[f] |= {g for g in library if rank(g) < rank(f)}
+            calls[f] |= {g for g in library if rank(g) < ranks[f]}
         return calls
+
+    def ranks(self, calls):
+        """The rank of each function, which is no higher than that of a function of the library that calls it: at -O0 small functions of float.c stand
+        for themselves, and if they ranked above the library, they and their callers would seem to call one another in a circle."""
+        found = {f: rank(f) for f in calls}
+        work = [f for f in calls if f.startswith(RUN_TIME)]
+        while work:
+            f = work.pop()
+            for g in calls[f]:
+                if found[g] > found[f]:
+                    found[g] = found[f]
+                    work.append(g)
+        return found
 
     def arrays(self, f):
         """The arrays of a function: name, class and size in words."""

@@ -47,12 +47,16 @@ class Layout(Constants, Frames):
 
     def take(self, words, c=None):
         """The first of so many words that nothing else has."""
-        at = self.even(self.next, c) if c else self.next
+        at = self.free(self.even(self.next, c) if c else self.next, words, c)
+        self.next = at + words
+        self.top = max(self.top, self.next)
+        return at
+
+    def free(self, at, words, c=None):
+        """The first of so many words from one on that no placed data have."""
         for begin, end, _ in self.fixed:
             if at < end and begin < at + words:
                 at = self.even(end, c) if c else end
-        self.next = at + words
-        self.top = max(self.top, self.next)
         return at
 
     def cells(self, d):
@@ -129,3 +133,10 @@ class Layout(Constants, Frames):
             self.next = up(self.next, EVEN)
             self.stacks[tuple(one)] = self.take(words), words
         return self.stacks[tuple(one)][0]
+
+    def have_room(self, stacks, words, room):
+        """Whether so many more stacks of so many words each stand within the first `room` words, each begun as `stack` begins it."""
+        at = self.next
+        for _ in range(stacks):
+            at = self.free(up(at, EVEN), words) + words
+        return at <= room

@@ -177,9 +177,21 @@ WEAK void *malloc(size_t n)
 }
 WEAK void *calloc(size_t n, size_t m)
 {
-    return malloc(n * m);   /* nothing is given twice, so all of it is 0 */
+    u64 all = (u64)n * m;
+    return all >> 32 ? 0 : malloc((size_t)all);   /* nothing is given twice, so all of it is 0 */
+}
+/* What stands between the old place and the new one holds all that the old one had. */
+WEAK void *realloc(void *p, size_t n)
+{
+    char *to = malloc(n), *from = p;
+    if (to && from)
+        for (size_t k = 0; k < n && from + k < to; k++)
+            to[k] = from[k];
+    return to;
 }
 WEAK void free(void *p)
 {
     (void)p;
 }
+#include "library_strings.h"
+#include "library_numbers.h"

@@ -6,7 +6,6 @@ STANDARD = {"add", "sub", "mul", "mulhu", "neg", "and", "or", "xor", "not", "shl
             "remu"}
 # Operations beyond them, those of `tta --with bits`, that steps are made of where the machine has them.
 KNOWN = {"rotl", "clz", "popcount", "bitrev", "sext8", "sext16", "divs", "rems", "min", "max"}
-MEMORY = {"ldw", "stw", "ldf", "stf", "in", "out"}
 
 
 class Machine:

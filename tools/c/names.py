@@ -227,9 +227,9 @@ def lines(o, by, find):
                 made += with_place(chosen(o, name(s.dst), s.op, [name(w) for w in s.args]), s.at)
             elif s.kind == "copy":
                 if name(s.dst) != name(s.args[0]):
-                    made.append(Step("copy", name(s.dst), None, [name(s.args[0])], at=s.at))
+                    made.append(Step("copy", name(s.dst), None, [name(s.args[0])]).marked(s.at))
             else:
-                made.append(Step(s.kind, name(s.dst) if s.dst else None, s.op, [name(w) for w in s.args], at=s.at))
+                made.append(Step(s.kind, name(s.dst) if s.dst else None, s.op, [name(w) for w in s.args]).marked(s.at))
         end = b.steps[-1]
         pairs = []
         for t in b.targets():
@@ -237,7 +237,7 @@ def lines(o, by, find):
                 if b.name in come and name(d) != name(come[b.name]):
                     pairs.append((name(d), name(come[b.name])))
         made += with_place(parallel(o, pairs), end.at)
-        made.append(Step(end.kind, None, end.op, [name(w) for w in end.args], end.to, end.at))
+        made.append(Step(end.kind, None, end.op, [name(w) for w in end.args], end.to).marked(end.at))
         b.steps = made
     o.params = [name(p) for p in o.params]
     for b in o.blocks:

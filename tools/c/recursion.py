@@ -41,7 +41,8 @@ def stack_of(program, number):
     room, groups = program.machine.data, len({tuple(g) for f, g in program.layout.group.items() if f in program.live})
     if program.stack_words or room is None:
         return program.stack_words or WORDS
-    return max(FEWEST, min(WORDS, (room - program.layout.top) // (groups - number + 1)))
+    left = groups - number + 1
+    return next((words for words in range(WORDS, FEWEST, -1) if program.layout.have_room(left, words, room)), FEWEST)
 
 
 class Group:
@@ -137,16 +138,16 @@ class Group:
         number = self.count_up()
         self.back[f].append((number, after.name))
         where, top = self.place_of(0, f, len(kept))
-        put, get = [], [Step("op", STACK, "add", [STACK, -top & M], at=s.at)]
+        put, get = [], [Step("op", STACK, "add", [STACK, -top & M]).marked(s.at)]
         for n, v in enumerate(kept):
-            put += self.at_stack(n, s) + [Step("store", None, None, [o_place(o, n), v], at=s.at)]
-            get += self.at_stack(n, s) + [Step("load", v, None, [o_place(o, n)], at=s.at)]
-        put += self.at_stack(where, s) + [Step("store", None, None, [o_place(o, where), number], at=s.at)]
-        put.append(Step("op", STACK, "add", [STACK, top], at=s.at))
+            put += self.at_stack(n, s) + [Step("store", None, None, [o_place(o, n), v]).marked(s.at)]
+            get += self.at_stack(n, s) + [Step("load", v, None, [o_place(o, n)]).marked(s.at)]
+        put += self.at_stack(where, s) + [Step("store", None, None, [o_place(o, where), number]).marked(s.at)]
+        put.append(Step("op", STACK, "add", [STACK, top]).marked(s.at))
         put += names.parallel(o, self.differing(self.made[f].params, s.args[:-1]))
-        put.append(Step("goto", to=[self.made[f].blocks[0].name], at=s.at))
+        put.append(Step("goto", to=[self.made[f].blocks[0].name]).marked(s.at))
         if s.dst:
-            get.append(Step("copy", s.dst, None, ["result"], at=s.at))
+            get.append(Step("copy", s.dst, None, ["result"]).marked(s.at))
         after.steps = get + b.steps[k + 1:]
         b.steps[k:] = self.check(top, s) + put
 
@@ -159,10 +160,10 @@ class Group:
             self.o.full = [Step("out", args=[FULL])] if self.program.machine_has("out") else []
             self.o.full += [Step("store", None, None, [self.base, FULL]), Step("halt")]
         rel = "geu" if self.program.machine_has("ltu") else "ge"
-        return [Step("check", None, rel, [STACK, max(0, self.base + self.words - more + 1)], at=s.at)]
+        return [Step("check", None, rel, [STACK, max(0, self.base + self.words - more + 1)]).marked(s.at)]
 
     def at_stack(self, n, s):
-        return [Step("op", o_place(self.o, n), "add", [STACK, n], at=s.at)] if n else []
+        return [Step("op", o_place(self.o, n), "add", [STACK, n]).marked(s.at)] if n else []
 
     def returns(self, f, one):
         """Writes each return of a function as a jump to one of the places from which it is called."""
@@ -174,9 +175,10 @@ class Group:
                 word = s.args[0]
                 outside = [n for n, to in ways if to is None]
                 if word != "result" and len(ways) > len(outside):
-                    b.steps.append(Step("copy", "result", None, [word], at=s.at))
+                    b.steps.append(Step("copy", "result", None, [word]).marked(s.at))
                 if len(ways) > 1:
-                    b.steps += [Step("op", "where", "add", [STACK, -self.layout.frame[f] - 1 & M], at=s.at), Step("load", "where", None, ["where"], at=s.at)]
+                    b.steps.append(Step("op", "where", "add", [STACK, -self.layout.frame[f] - 1 & M]).marked(s.at))
+                    b.steps.append(Step("load", "where", None, ["where"]).marked(s.at))
                 self.search(b, ways, word, s.at)
         self.o.blocks += one.blocks
 
@@ -184,12 +186,12 @@ class Group:
         """Leads on from a block by halves."""
         if len(ways) == 1:
             to = ways[0][1]
-            b.steps.append(Step("ret", args=[word], at=at) if to is None else Step("goto", to=[to], at=at))
+            b.steps.append(Step("ret", args=[word]).marked(at) if to is None else Step("goto", to=[to]).marked(at))
             return
         half = len(ways) // 2
         low, high = self.block(), self.block()
         rel = "ltu" if self.program.machine_has("ltu") else "lt"
-        b.steps.append(Step("if", None, rel, ["where", ways[half][0]], [low.name, high.name], at=at))
+        b.steps.append(Step("if", None, rel, ["where", ways[half][0]], [low.name, high.name]).marked(at))
         self.search(low, ways[:half], word, at)
         self.search(high, ways[half:], word, at)
 

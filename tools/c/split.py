@@ -77,7 +77,7 @@ class Split:
         if v in into[self.head]:
             for b in o.blocks:
                 if b.name not in self.body and self.head in b.targets():
-                    b.steps.insert(len(b.steps) - 1, Step("copy", own, None, [v], at=b.steps[-1].at))
+                    b.steps.insert(len(b.steps) - 1, Step("copy", own, None, [v]).marked(b.steps[-1].at))
         if assigned:
             for t in [t for t in o.blocks if t.name not in self.body and v in into[t.name]]:
                 self.leave(t, [b for b in inside if t.name in b.targets()])
@@ -86,12 +86,12 @@ class Split:
         """Gives the word back on the ways from these blocks to t."""
         if not before:
             return
-        back = Step("copy", self.v, None, [self.own], at=t.steps[0].at)
+        back = Step("copy", self.v, None, [self.own]).marked(t.steps[0].at)
         if all(b.name in self.body for b in self.o.blocks if t.name in b.targets()):
             t.steps.insert(0, back)
             return
         between = Block(self.o.fresh() + "e")
-        between.steps = [back, Step("goto", to=[t.name], at=t.steps[0].at)]
+        between.steps = [back, Step("goto", to=[t.name]).marked(t.steps[0].at)]
         self.o.blocks.append(between)
         self.into[between.name], self.at_end = self.into[t.name], True
         for b in before:

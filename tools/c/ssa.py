@@ -32,8 +32,13 @@ def fold(op, a, b):
 class Step:
     __slots__ = ("kind", "dst", "op", "args", "to", "at")
 
-    def __init__(self, kind, dst=None, op=None, args=(), to=(), at=None):
-        self.kind, self.dst, self.op, self.args, self.to, self.at = kind, dst, op, list(args), list(to), at
+    def __init__(self, kind, dst=None, op=None, args=(), to=()):
+        self.kind, self.dst, self.op, self.args, self.to, self.at = kind, dst, op, list(args), list(to), None
+
+    def marked(self, at):
+        """The step with a mark of the place in the source."""
+        self.at = at
+        return self
 
     def __repr__(self):
         return f"{self.dst} = {self.kind} {self.op} {self.args} {self.to}"
@@ -196,9 +201,7 @@ class Builder(Bounds, Lacking, Simple):
             return self.truth(OPPOSITE[rel], x, y)
         if a == M and b == 0:
             return self.one("neg", self.truth(rel, x, y))
-        p, q = self.bounds(a), self.bounds(b)
-        r = min(p[0], q[0]), max(p[1], q[1])
-        r = self.clamp(rel, x, y, a, b, r)
+        r = self.of_choice((rel, x, y), a, b)
         rel, x, y = self.relation_here(rel, x, y)
         d = self.fresh(r if r[1] - r[0] <= M else FULL)
         return self.put(Step("sel", d, rel, [x, y, a, b]))

@@ -53,7 +53,7 @@ def hold(o, by, head, body, w):
             for s in b.steps:
                 s.args = [v if x == w and isinstance(x, int) else x for x in s.args]
         elif head in b.targets():
-            b.steps.insert(len(b.steps) - 1, Step("copy", v, None, [w], at=b.steps[-1].at))
+            b.steps.insert(len(b.steps) - 1, Step("copy", v, None, [w]).marked(b.steps[-1].at))
     return v
 
 

@@ -5,6 +5,7 @@ What is worked out, in order: data (memory.py, layout.py), the steps of each fun
 the blocks (order.py), variables of loops' own (split.py) and for constants (steady.py), variables for several values where the frame is
 small (share.py), and the text (printer.py)."""
 import re
+from collections import namedtuple
 
 import names
 import order
@@ -30,17 +31,21 @@ class TooLong(Refused):
     """A text of more lines than may be."""
 
 
+# Where data may begin, the words of the stack of each group of functions (nothing: as there is room), and whether a full one ends the run.
+Room = namedtuple("Room", "base stack stack_checked", defaults=(16, None, True))
+
+
 class Program:
     """A program on its way. `machine` says which operations there are and how much room, as far as it is known (machine.py)."""
 
-    def __init__(self, text, machine, base=16, cell=None, stack=None, stack_checked=True):
-        self.machine, self.extra, self.stack_words, self.stack_checked = machine, machine.extra, stack, stack_checked
+    def __init__(self, text, machine, cell=None, room=Room()):
+        self.machine, self.extra, self.stack_words, self.stack_checked = machine, machine.extra, room.stack, room.stack_checked
         self.module = Module(text)
         if "@main" not in self.module.functions:
             raise Refused("there is no function main")
         try:
             self.memory = Memory(self.module, cell)
-            self.layout = Layout(self.module, self.memory, base)
+            self.layout = Layout(self.module, self.memory, room.base)
         except Refused as e:
             if e.where and e.where.startswith("!"):
                 e.where = self.module.place(e.where)
@@ -127,8 +132,11 @@ class Program:
             raise TooLong(f"the program has {about}{count} lines, and a text has at most {MOST_LINES}; the largest functions are {told}")
 
     def largest_data(self):
-        sizes = sorted(((self.layout.cells(d), d.name[1:]) for d in self.module.data.values()), reverse=True)[:3]
-        return ", ".join(f"{name} with {n}" for n, name in sizes)
+        sizes = [(self.layout.cells(d), d.name[1:]) for d in self.module.data.values()]
+        sizes += [(words, f"the stack of {' and '.join(f[1:] for f in group)}") for group, (_, words) in self.layout.stacks.items()]
+        largest = sorted(sizes, reverse=True)[:3]
+        hint = "; --heap N gives malloc fewer bytes" if any(name == "heap" for _, name in largest) else ""
+        return ", ".join(f"{name} with {n}" for n, name in largest) + hint
 
     def fit(self, made):
         """Lets values share variables until the frame has room for all."""

@@ -85,6 +85,7 @@ def dest_fault(m, dest):
 
 
 def guard_fault(m, guard):
+    """What is wrong with the guard of a move, or None."""
     if guard is None:
         return None
     _, name, index = guard
@@ -118,6 +119,7 @@ def of_place(lines, text, m, line):
 
 
 def socket_of_source(m, source):
+    """The socket by which a place comes to a bus, or None for a word."""
     if source.kind != "place":
         return None
     if source.part == "ra":

@@ -7,7 +7,7 @@ from causes import near
 from texts import machine as machine_reader
 from texts.tokens import lines_of
 
-MARK, DIGEST_AT, DIGEST_END, BITS_AT, COUNT_AT = b"TTAI", 16, 48, 8, 12
+DIGEST_AT, DIGEST_END, BITS_AT, COUNT_AT = 16, 48, 8, 12
 VERSION_AT, WITH_DATA, NUMBER, DATUM = 7, 2, 4, 8
 LONGEST_FILE = 1 << 24
 
@@ -29,6 +29,7 @@ def has_data(data):
 
 
 def no_image(of):
+    """Why a file is no image: how it begins."""
     if not of.data:
         return "the file is empty: an image begins with the bytes `TTAI`"
     begin = of.data[:16].split(b"\n")[0].decode("latin-1")
@@ -50,6 +51,7 @@ def other_width(of):
 
 
 def other_length(of):
+    """How long the image would be by its header, where it is not, or None."""
     data = of.data
     if len(data) < DIGEST_END + (NUMBER if has_data(data) else 0):
         return None
@@ -61,6 +63,7 @@ def other_length(of):
 
 
 def field_without_meaning(of):
+    """Where a field of an instruction has bits without a meaning."""
     if of.word is None:
         return None
     buses = list(machine_reader.read(lines_of(of.machine)).buses)
@@ -81,6 +84,7 @@ def bit_after_end(of):
 
 
 def wrong_data(of):
+    """Which datum has an address that it may not have, or None."""
     if of.word is None or not has_data(of.data):
         return None
     if not number_at(of.data, DIGEST_END):

@@ -2,23 +2,10 @@
 import re
 
 from causes import near
+from causes.foreign import BEFORE, MARKS, OTHER_NAMES, OTHER_RELATIONS, RELATION_MARKS
 from texts import program as reader
 from texts.tokens import bad_token, shown
 
-# What stands in other languages for an operation, and what it is called here.
-MARKS = {"+": "add", "-": "sub", "*": "mul", "/": "divu", "%": "remu", "&": "and", "|": "or", "^": "xor", "<<": "shl", ">>": "shru"}
-OTHER_NAMES = {
-    "plus": "add", "minus": "sub", "subtract": "sub", "times": "mul", "mult": "mul", "multiply": "mul", "div": "divu", "divide": "divu", "mod": "remu",
-    "rem": "remu", "modulo": "remu", "lsl": "shl", "sll": "shl", "sla": "shl", "lsr": "shru", "srl": "shru", "asr": "shr", "sra": "shr", "inv": "not",
-    "negate": "neg", "equal": "eq", "less": "lt", "greater": "gt", "inc": "add", "dec": "sub", "ldw": "load", "stw": "store",
-}
-RELATION_MARKS = {"<": "lt", ">": "gt", "==": "eq", "!=": "ne"}
-BEFORE = {"-": "neg", "~": "not"}
-# Relations that programs of other languages have: the one of this language, and whether its operands change places.
-OTHER_RELATIONS = {
-    "gt": ("lt", True), "le": ("ge", True), "gtu": ("ltu", True), "leu": ("geu", True), ">": ("lt", True), "<=": ("ge", True), "<": ("lt", False),
-    ">=": ("ge", False), "==": ("eq", False), "=": ("eq", False), "!=": ("ne", False),
-}
 STEPS = ["proc", "end", "data", "if", "goto", "when", "store", "out", "call", "return", "halt"]
 SHAPES = {
     "proc": "`proc NAME PARAMETER ..`", "data": "`data ADDRESS WORD`", "if": "`if RELATION a b goto LABEL`", "goto": "`goto LABEL`",
@@ -185,6 +172,7 @@ def assignment_fault(tokens):
 
 
 def call_fault(tokens):
+    """What is wrong with a line that begins with `call`, or None."""
     if len(tokens) < 2:
         return f"after `call` comes the name of a procedure: {SHAPES['call']}"
     if not reader.is_own(tokens[1]):
@@ -257,13 +245,7 @@ def form_fault(tokens):
     if first.kind == "bad":
         return bad_token(first)
     if len(tokens) > 1 and tokens[1].text == ":":
-        if is_reserved(first):
-            return f"`{first.text}` is a reserved word, so no label is called so"
-        if first.kind != "name":
-            return f"a label is a name, and here is {shown(first)}"
-        if len(tokens) > 2 and tokens[2].text == "=":
-            return f"an assignment has `=` alone: `{first.text} = {words_of(tokens[3:])}`"
-        return f"a label stands alone on its line: put `{words_of(tokens[2:])}` on the next"
+        return colon_fault(tokens)
     if len(tokens) > 1 and tokens[1].text == "=":
         if len(tokens) > 2 and tokens[2].text == "=":
             return f"an assignment has one `=`: `{first.text} = {words_of(tokens[3:])}`"
@@ -281,10 +263,27 @@ def form_fault(tokens):
         return f"`{tokens[1].text * 2}` is no mark of a program: `{first.text} = {MARKS[tokens[1].text]} {first.text} 1`"
     if len(tokens) > 1 and tokens[1].kind == "bad":
         return bad_token(tokens[1])
+    return unknown_fault(tokens)
+
+
+def colon_fault(tokens):
+    """What is wrong with a line that has `:` after its first token."""
+    first = tokens[0]
+    if is_reserved(first):
+        return f"`{first.text}` is a reserved word, so no label is called so"
+    if first.kind != "name":
+        return f"a label is a name, and here is {shown(first)}"
+    if len(tokens) > 2 and tokens[2].text == "=":
+        return f"an assignment has `=` alone: `{first.text} = {words_of(tokens[3:])}`"
+    return f"a label stands alone on its line: put `{words_of(tokens[2:])}` on the next"
+
+
+def unknown_fault(tokens):
+    """What is wrong with a line whose first name begins no step."""
+    first = tokens[0]
     if first.text in reader.ARITY or first.text in OTHER_NAMES:
         return f"an operation gives a word to a variable: `d = {words_of([first._replace(text=OTHER_NAMES.get(first.text, first.text)), *tokens[1:]])}`"
-    if len(tokens) == 1:
-        guess = near.nearest(first.text, STEPS)
-        return f"`{first.text}` is no step" + (f"; is it `{guess}`?" if guess else "; a label has `:` after it, and a variable `=` and a value")
     guess = near.nearest(first.text, STEPS)
+    if len(tokens) == 1:
+        return f"`{first.text}` is no step" + (f"; is it `{guess}`?" if guess else "; a label has `:` after it, and a variable `=` and a value")
     return f"`{first.text}` begins no step" + (f"; is it `{guess}`?" if guess else f"; a variable has `=` after it, and {shown(tokens[1])} stands there")

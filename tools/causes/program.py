@@ -59,6 +59,7 @@ def of_procedure(lines, program, number):
 
 
 def of_count(lines, program, number):
+    """Why a line gives a procedure or an operation another number of words than it takes."""
     step = reader.step_of(number, tokens_of(lines[number - 1]))
     given = len(step.operands)
     if step.kind == "proc":
@@ -72,6 +73,7 @@ def of_count(lines, program, number):
 
 
 def of_twice(lines, program, number):
+    """What a line declares that stands elsewhere already."""
     step = reader.step_of(number, tokens_of(lines[number - 1]))
     if step.kind == "data":
         value = step.operands[0].value
@@ -108,6 +110,7 @@ def of_main(lines, program, number):
 
 
 def of_limit(lines, program, number):
+    """Which limit of programs a line passes."""
     step = reader.step_of(number, tokens_of(lines[number - 1]))
     if step.kind in ("proc", "call") and len(step.operands) > reader.MOST_PARAMETERS:
         what = "parameter" if step.kind == "proc" else "argument"

@@ -3,9 +3,7 @@ import sys
 import threading
 import time
 
-
-def clock(seconds):
-    return f"{int(seconds) // 60}:{int(seconds) % 60:02}"
+from clock import clock
 
 
 class Progress:

@@ -3,7 +3,6 @@ program uses, and then makes changes by chance to machines that it has found, `-
 with that of `exec`, and one that is refused, not covered, or outputs anything else is dropped. It keeps the front of area against cycles.
 For a seed (`--seed S`) it finds the same, however many processors there are."""
 import math
-import os
 import random
 import tempfile
 
@@ -41,7 +40,7 @@ class Search:
         """Tries the first machine, and what is left of it without the operations that no program uses."""
         tried = self.trier.one(machine, 0)
         if tried is None:
-            raise trial.Refused(self.trier.refusal(self.asked.machine))
+            raise self.trier.refusal(self.asked.machine)
         self.front = front.Front(self.point(machine, tried, [], []))
         self.seen.add("\n".join(model.lines_of(machine)))
         before = []
@@ -127,7 +126,7 @@ def search(tta, words):
             trier.take(asked.machine, asked.programs)
             stopped = searched(work, machine_reader.read(lines_of(asked.machine)))
         except trial.Refused as error:
-            ending.say(f"explore: {error}")
+            ending.say(f"explore: {error}", error.more)
             return REFUSED
         stopped = found.write(work, asked, trier) or stopped
     if stopped:

@@ -26,16 +26,20 @@ def asked_by(words):
         if word == "--bound":
             bound = next(words, None)
             if bound is None or not command_words.is_number(bound, command_words.BOUND):
-                raise explore.Faulty("--bound takes a number of steps and cycles, below 2^48")
+                said = f"and {bound} is none" if bound is not None else "and nothing follows it"
+                raise explore.Faulty(f"--bound takes a number of steps and cycles, below 2^48\n  {said}")
         elif word.startswith("--"):
-            raise explore.Faulty(f"suggest has no option {word}")
+            raise explore.Faulty(f"suggest has no option {word}\n  its one option is --bound N, the greatest number of steps and of cycles")
         else:
             names.append(word)
     if len(names) != 2:
-        raise explore.Faulty("suggest takes a machine and a program")
-    for path in names:
+        given = f"{near.count(len(names), 'word')} given" + (f": {' '.join(names)}" if names else "")
+        verb = "is" if len(names) == 1 else "are"
+        raise explore.Faulty(f"suggest takes a machine and a program\n  its words are: suggest M P [--bound N], and there {verb} {given}")
+    for path, kind in zip(names, ("a machine", "a program")):
         if not os.path.isfile(path):
-            raise explore.Faulty(f"suggest: there is no file {path}")
+            is_folder = f"; {path} is a folder" if os.path.isdir(path) else ""
+            raise explore.Faulty(f"suggest: there is no file {path}\n  it stands where {kind} has to be{is_folder}")
     return *names, bound
 
 
@@ -145,7 +149,7 @@ def told(trier, tta, path):
     machine = machine_reader.read(lines_of(path))
     first = trier.one(machine, 0)
     if first is None:
-        raise trial.Refused(trier.refusal(path))
+        raise trier.refusal(path)
     seen = profiled(trier, path)
     found = proposals.of(machine, seen, first.words[0])
     came = tried_of(trier, found)
@@ -180,5 +184,5 @@ def suggest(tta, words):
             trier.take(machine, [program])
             return told(trier, tta, machine)
         except trial.Refused as error:
-            ending.say(f"suggest: {error}")
+            ending.say(f"suggest: {error}", error.more)
             return REFUSED

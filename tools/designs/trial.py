@@ -1,13 +1,12 @@
 """Tries machines: builds each program for one, runs the images, and compares what they output with `exec` on the first machine. A program in C is
 compiled once, for the first machine, so that all machines run the same text."""
 import os
-import subprocess
-import sys
 from collections import namedtuple
 from concurrent.futures import ThreadPoolExecutor
 
 import explore
 import from_c
+import reason
 import runs
 from designs import model
 from texts import program as program_reader
@@ -15,7 +14,7 @@ from texts.tokens import lines_of
 
 # A program: its name, the text that is built, the files of its data and input, and the digest of what it outputs.
 Program = namedtuple("Program", "name text data stream wanted")
-# What a machine came to: cycles of each program, words of each code, bits of an instruction; the images, where they are kept.
+# What a machine came to: cycles of each program, words of each code, bits of an instruction.
 Trial = namedtuple("Trial", "cycles words bits")
 FLAGS = {"load": "ldw", "store": "stw", "out": "out", "in": "in"}
 RELATIONS = {"eq": "eq", "ne": "eq", "lt": "lt", "ge": "lt", "ltu": "ltu", "geu": "ltu"}
@@ -26,7 +25,17 @@ WIDTH = 16
 
 
 class Refused(Exception):
-    """Why a program cannot be tried at all."""
+    """Why a program cannot be tried at all, and the lines that stand below it."""
+
+    def __init__(self, text, below=()):
+        super().__init__(text)
+        self.more = "".join(f"\n  {line}" for line in below)
+
+
+def refused_by(ran, words, head):
+    """A refusal by a command, told as the script tells it: which line of which file, and its cause."""
+    line = explore.why(ran.error)
+    return Refused(f"{head}: {line}", reason.reason(ran.status, line, words[1:]))
 
 
 def operations_of(text):
@@ -55,26 +64,34 @@ class Trier:
                 text = os.path.join(self.folder, f"{at}.program")
                 made = self.runs.run(from_c.command(self.tta, ["--machine", machine, path, text]))
                 if made.status:
-                    raise Refused(explore.why(made.error))
+                    raise Refused(explore.why(made.error), ["tta c --machine takes the programs that may be tried; docs/C.md says what it takes"])
             data, stream = explore.beside(path, ".input") or os.devnull, explore.beside(path, ".stream")
-            ran = self.runs.run([self.program, "exec", machine, text, data, self.bound, *([stream] if stream else [])])
+            words = [self.program, "exec", machine, text, data, self.bound, *([stream] if stream else [])]
+            ran = self.runs.run(words)
+            if explore.why(ran.error) == "running":
+                more = f"the program does not end within {self.bound} steps; --bound N takes more, and machines are compared by runs that end"
+                raise Refused(f"{path}: running", [more])
             if ran.number_after("steps") is None or ran.status and explore.why(ran.error) not in ENDS:
-                raise Refused(f"{path}: {explore.why(ran.error)}")
+                raise refused_by(ran, words, path)
             self.programs.append(Program(name, text, data, stream, ran.output))
 
     def refusal(self, path):
         """Why a machine is not tried."""
-        told = self.runs.text([self.view, "info", path])
+        words = [self.view, "info", path]
+        told = self.runs.text(words)
         if told.status:
-            return f"{path}: {explore.why(told.error)}"
+            return refused_by(told, words, path)
         broken = [line for line in told.output.decode("latin-1").split("\n") if line.startswith("rule ")]
         if broken:
-            return f"{path} is not covered: {broken[0]}"
+            more = "`build` compiles for covered machines alone; docs/COMMANDS.md, Coverage, has the rules"
+            return Refused(f"{path} is not covered: {broken[0]}", [more])
         for program in self.programs:
-            built = self.runs.run([self.program, "build", path, program.text, os.path.join(self.folder, "refused.image")])
+            words = [self.program, "build", path, program.text, os.path.join(self.folder, "refused.image")]
+            built = self.runs.run(words)
             if built.status:
-                return f"{path} and {program.name}: {explore.why(built.error)}"
-        return f"{path} does not output what exec does, within the bound"
+                return refused_by(built, words, f"{path} and {program.name}")
+        more = f"its run may take more than {self.bound} cycles; --bound N takes more"
+        return Refused(f"{path} does not output what exec does, within the bound", [more])
 
     def operations(self):
         """The operations that the programs use."""

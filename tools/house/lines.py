@@ -109,6 +109,14 @@ def count_logic(path, counter):
         counter["import"] += re.match(r"(?:pub )?use ", line.strip()) is not None
 
 
+def unnamed(name, paths):
+    """What a crate stands on by crates.txt, and none of its files names."""
+    with open(os.path.join(TOP, "crates.txt"), encoding="utf-8") as f:
+        others = re.search(rf"^{name}:(.*)$", f.read(), re.M)
+    named = {word for path in paths for line in text_of(path) for word in re.findall(r"\w+", line)}
+    return [other for other in (others[1].split() if others else []) if other not in named]
+
+
 def of_crate(name):
     """The counts of a crate."""
     folder, counts = os.path.join(CRATES, name), Counts()
@@ -121,9 +129,11 @@ def of_crate(name):
     for part in ("specs", "proofs"):
         for path in files(os.path.join(folder, part), ".antt"):
             count_logic(path, getattr(counts, part))
-    for path in files(folder, ".rt") + files(folder, ".antt"):
+    paths = files(folder, ".rt") + files(folder, ".antt")
+    for path in paths:
         if len(text_of(path)) > FILE:
             counts.larger.append(f"{os.path.relpath(path, TOP)} has {len(text_of(path))} lines")
+    counts.larger += [f"crates.txt: {name} stands on {other}, and none of its files names it" for other in unnamed(name, paths)]
     return counts
 
 

@@ -25,6 +25,7 @@ def next_of(steps, places):
 
 
 def reached(after):
+    """The steps to which a path leads from the first."""
     seen, left = set(), [0] if after else []
     while left:
         at = left.pop()
@@ -99,6 +100,7 @@ def of_circle(circle, steps, after):
 
 
 def findings(program):
+    """What is found of the paths of a program."""
     found = []
     for proc in program.procs:
         steps, places = steps_of(proc)

@@ -58,6 +58,7 @@ class Nearness:
 
 
 def of_proc(proc):
+    """What is found of the names of a procedure."""
     uses, told = Uses(proc), set()
     nearness = Nearness(uses.names())
 

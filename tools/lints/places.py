@@ -13,6 +13,7 @@ def constants(proc):
 
 
 def findings(program, machine):
+    """The accesses of a program that lie outside the data space of the machine."""
     words = machine.words("data")
     accesses = [(step, step.operands[0], "") for step in program.data]
     for proc in program.procs:

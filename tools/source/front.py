@@ -64,6 +64,7 @@ def compiled(tta, machine, path, folder):
 
 
 def prompt(tta, words):
+    """The command: the status of the prompt behind it."""
     machine, path, given = words[0], words[1], words[2:]
     sys.stdin.reconfigure(errors="surrogateescape")
     with tempfile.TemporaryDirectory() as folder:

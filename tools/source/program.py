@@ -4,6 +4,8 @@ from texts import program as reader
 
 
 class Source:
+    """A program as it was written: its lines, and its names for what the prompt calls by numbers."""
+
     def __init__(self, text, stages):
         self.lines = text.split("\n")
         self.stages = Stages(stages)

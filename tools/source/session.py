@@ -101,6 +101,7 @@ class Session:
         return self.to(0)
 
     def until(self, words):
+        """Makes steps until a register, a word or a variable is another than before."""
         question = self.question(words[1:])
         if question is None:
             return ["refused 70: it is written as until reg FILE.INDEX, until mem A or until var NAME"]

@@ -54,6 +54,7 @@ class Reader:
     # ---- what a text is made of
 
     def declaration(self):
+        """Reads a line with a datum."""
         line = self.line()
         self.take("`data`", "data")
         address = self.take("an address, which is a number", "number")
@@ -62,6 +63,7 @@ class Reader:
         self.data.append(Datum(line, address.value))
 
     def source(self):
+        """Reads the source of a move."""
         token = self.take("a source: a word, the name of a label, `FILE.INDEX`, `IMM.INDEX`, `UNIT.r` or `gcu.ra`", "number", "negative", "name")
         if token.kind == "number":
             return Source("word", None, token.value)
@@ -73,6 +75,7 @@ class Reader:
         return Source("place", token.text, part.text)
 
     def dest(self):
+        """Reads the destination of a move."""
         name = self.take("a destination: `FILE.INDEX`, `UNIT.o`, `UNIT.t.OPERATION`, `gcu.t.jump`, `gcu.t.call` or `gcu.t.halt`", "name").text
         self.take("`.`, and the register or port", ".")
         part = self.take("the number of a register, `o`, or `t`", "number", "o", "t").text
@@ -82,6 +85,7 @@ class Reader:
         return Dest(name, part, self.take("the name of an operation", "name").text)
 
     def slot(self):
+        """Reads what stands for a bus: a move, or nothing."""
         line = self.line()
         if self.text() == "...":
             self.take("`...`", "...")
@@ -97,6 +101,7 @@ class Reader:
         return Slot(line, guard, source, self.dest())
 
     def long(self):
+        """Reads a long immediate."""
         line = self.line()
         self.take("`[`", "[")
         name = self.take("the name of a template", "name").text
@@ -106,6 +111,7 @@ class Reader:
         return Long(line, name, Source("word", None, token.value) if token.kind == "number" else Source("label", token.text, None))
 
     def instruction(self):
+        """Reads an instruction."""
         slots, long = [self.slot()], None
         while self.text() == ",":
             self.take("`,`", ",")

@@ -1,19 +1,19 @@
 -- Words past the code change nothing in a circuit that tells the first fault.
-use Rattle.std.proofs.Common.{◌≡◌, ℕ, zero, suc, ◌-◌, ◌^◌, Bool, true, false, List, [], ◌∷◌, ◌++◌, length, map, refl, ap, ◌∙◌}
+use Rattle.std.proofs.Common.{◌≡◌, ℕ, zero, suc, ◌+◌, ◌-◌, ◌^◌, Bool, true, false, ◌&&◌, List, [], ◌∷◌, ◌++◌, length, map, refl, ap, ◌∙◌}
 use Rattle.std.specs.Prelude.{if◌then◌else◌, slice_index, slice_set}
 use Rattle.std.specs.List.{find}
 use Rattle.tta_circuit.specs.Circuit.{WritePort}
-use Rattle.tta_circuit.specs.Meaning.{is_input, given, settled, clocked}
+use Rattle.tta_circuit.specs.Meaning.{bit, is_input, given, settled, clocked}
 use Rattle.tta_circuit.proofs.Alike.{settle_same, registered_same, written_same}
 use Rattle.tta_arch.specs.Rules.{same_op}
 use Rattle.tta_arch.specs.declared.parts.Op.TheVariants.{Stw, Stf}
-use Rattle.tta_trap.specs.Cited.{Units, Machine, is_set, value, powered, Store, same_signal, same_store, Data, Frame, IsOffered, IsReady, IsReset, Hardware, held_at, filled, register, register_names}
+use Rattle.tta_trap.specs.Cited.{Units, Machine, Circuit, is_set, value, powered, Store, same_signal, same_store, Data, Frame, IsOffered, IsReady, IsReset, Asks, Goes, Puts, PutWord, Hardware, held_at, signals_at, cycles_at, taken_at, put_at, filled, register, register_names}
 use Rattle.tta_hardware.specs.Signals.{Signal as Named, Code, Offer}
 use Rattle.tta_hardware.specs.Hardware.{store_port}
 use Rattle.tta_hardware.proofs.Kept.{filled_reads}
 use Rattle.tta_trap.specs.Memory.{watch_register, watch_registers}
 use Rattle.tta_trap.specs.Trap.{trap_wire, trap_wires, trap_with}
-use Rattle.tta_trap.specs.Images.{TrapFilledRuns}
+use Rattle.tta_trap.specs.Images.{TrapRunsAlike, TrapFilledRuns}
 
 -- two circuits hold the same, but for what stands past the code
 record SameHeld (h h' : Hardware) : Type 0 where
@@ -86,13 +86,52 @@ module _ (u : Units) (m : Machine) (count : ℕ) (ws memory : List ℕ) where
       clocked_alike (held_at u (trap_with m count ws memory) powers inputs t) (held_at u (trap_with m count (filled m ws) memory) powers inputs t)
       (held_alike powers inputs t) (inputs t)
 
+module _ (u : Units) (m : Machine) (count : ℕ) (ws memory : List ℕ) (powers : Named → ℕ) (inputs : ℕ → Named → ℕ) where
+  abbrev c : Circuit Named Store
+  c = trap_with m count ws memory
+
+  abbrev c' : Circuit Named Store
+  c' = trap_with m count (filled m ws) memory
+
+  settled_alike : (t : ℕ) (n : Named) → signals_at u c' powers inputs t n ≡ signals_at u c powers inputs t n
+  settled_alike t =
+      lines u m count ws memory (held_at u c powers inputs t) (held_at u c' powers inputs t)
+      (held_alike u m count ws memory powers inputs t) (inputs t)
+
+  cycles_alike : (t : ℕ) → cycles_at u c' powers inputs t ≡ cycles_at u c powers inputs t
+  cycles_alike zero = refl
+  cycles_alike (suc t) =
+      ap (λ n. cycles_at u c' powers inputs t + bit (is_set n)) (settled_alike t Goes)
+      ∙ ap (λ (k : ℕ). k + bit (is_set (signals_at u c powers inputs t Goes))) (cycles_alike t)
+
+  taken_alike : (t : ℕ) → taken_at u c' powers inputs t ≡ taken_at u c powers inputs t
+  taken_alike zero = refl
+  taken_alike (suc t) =
+      ap (λ n. taken_at u c' powers inputs t + bit (is_set n && is_set (signals_at u c' powers inputs t Asks))) (settled_alike t Goes)
+      ∙ ap (λ n. taken_at u c' powers inputs t + bit (is_set (signals_at u c powers inputs t Goes) && is_set n)) (settled_alike t Asks)
+      ∙ ap (λ (k : ℕ). k + bit (is_set (signals_at u c powers inputs t Goes) && is_set (signals_at u c powers inputs t Asks))) (taken_alike t)
+
+  put_alike : (t : ℕ) → put_at u c' powers inputs t ≡ put_at u c powers inputs t
+  put_alike zero = refl
+  put_alike (suc t) =
+      ap (λ n. put_at u c' powers inputs t ++ (if is_set n then signals_at u c' powers inputs t PutWord ∷ [] else [])) (settled_alike t Puts)
+      ∙ ap (λ n. put_at u c' powers inputs t ++ (if is_set (signals_at u c powers inputs t Puts) then n ∷ [] else []))
+      (settled_alike t PutWord)
+      ∙ ap (λ (l : List ℕ). l ++ (if is_set (signals_at u c powers inputs t Puts) then signals_at u c powers inputs t PutWord ∷ [] else []))
+      (put_alike t)
+
+  pub runs_alike : (t : ℕ) → TrapRunsAlike u m count ws memory powers inputs t
+  runs_alike t =
+      let same = held_alike u m count ws memory powers inputs t in
+      record {
+        settled = settled_alike t;
+        held = same.words;
+        data_space = same.memory;
+        frame_space = same.frame;
+        cycles = cycles_alike t;
+        taken = taken_alike t;
+        put = put_alike t;
+      }
+
 pub trap_filled_runs : TrapFilledRuns
-trap_filled_runs u m count ws memory powers inputs t =
-    let same = held_alike u m count ws memory powers inputs t in
-    record {
-      settled = lines u m count ws memory (held_at u (trap_with m count ws memory) powers inputs t)
-          (held_at u (trap_with m count (filled m ws) memory) powers inputs t) same (inputs t);
-      held = same.words;
-      data_space = same.memory;
-      frame_space = same.frame;
-    }
+trap_filled_runs u m count ws memory powers inputs t = runs_alike u m count ws memory powers inputs t

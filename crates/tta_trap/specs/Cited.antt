@@ -18,11 +18,11 @@ pub use Rattle.tta_hardware.specs.Hardware.{bus_wires, circuit_with, code_words,
 pub use Rattle.tta_hardware.specs.Order.{rank}
 pub use Rattle.tta_hardware.specs.Pins.{in_ready, out_valid}
 pub use Rattle.tta_hardware.specs.Registers.{longs, register}
-pub use Rattle.tta_hardware.specs.Runs.{AreClocks, AreClocksFrom, HasRunFrom, HoldsWords, cyc_over, cycles_after, cycles_at, held_after, held_at, signals_after, signals_at, start_over}
+pub use Rattle.tta_hardware.specs.Runs.{AreClocks, AreClocksFrom, HasRunFrom, HoldsWords, cyc_over, cycles_after, cycles_at, held_after, held_at, put_at, signals_after, signals_at, start_over, taken_at}
 pub use Rattle.tta_hardware.specs.Signals.{Acts, Asks, Clashes, Controls, Data, DestOf, EndsNow, Expression, FaultNow, Fetched, Frame, Gives, Goes, GoalNow, GuardOf, HasHalted, HasWord, IsOffered, IsPast, IsReady, IsReset, IsShort, LacksOperand, LacksPort, LacksRegister, Lands, NextPc, Pc, PutWord, Puts, SourceOf, Starts, Store, Underway, Watch, Watches, same_signal, same_store}
 pub use Rattle.tta_hardware.specs.Sized.{signal_width, store_width}
 pub use Rattle.tta_hardware.specs.Stands.{Hardware, HasClocked, IsSettled, StandsFor, has_place, is_halted, is_written}
-pub use Rattle.tta_hardware.specs.Theorem.{IsFed, is_fault}
+pub use Rattle.tta_hardware.specs.Theorem.{IsFed, is_fault, is_waiting}
 pub use Rattle.tta_hardware.specs.Wires.{begins, is_coming, longest, made_of, never, ops_of, reached}
 pub use Rattle.tta_hardware.specs.Within.{AreInputs}
 pub use Rattle.tta_hardware.specs.Words.{filled, image_words}

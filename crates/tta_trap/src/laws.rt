@@ -3,7 +3,7 @@
 
 ghost use Rattle.tta_trap.specs.Tells.{KnowsOn, TellsFaults};
 ghost use Rattle.tta_trap.specs.Theorem.{TrapHoldsCode, TrapRuns, TrapStandsStill, TrapStays};
-ghost use Rattle.tta_trap.specs.Images.{TrapFilledRuns, TrapImageRuns};
+ghost use Rattle.tta_trap.specs.Images.{TrapFilledRuns, TrapFilledShows, TrapImageRuns};
 ghost use Rattle.tta_trap.specs.Sized.{TrapIsClosed, TrapIsPlain, TrapNamesDiffer};
 ghost use Rattle.tta_trap.specs.Pins.{TrapPinsServe};
 ghost use Rattle.tta_trap.specs.Within.{TrapWordsStay};
@@ -74,6 +74,12 @@ pub fn trap_holds_code()
 /// Zeros past the code change nothing, and no fault that it tells.
 pub fn trap_filled_runs()
     ensures { TrapFilledRuns }
+{}
+
+/// So the circuit whose memory of code is filled up with zeros shows the run of the machine, and tells the
+/// fault that the next cycle meets.
+pub fn trap_filled_shows()
+    ensures { TrapFilledShows }
 {}
 
 /// The circuit whose memory of code has the bits of an image runs as the machine does, and tells the fault
