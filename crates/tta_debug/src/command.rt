@@ -18,6 +18,7 @@ use crate::session::Session;
 use crate::told::{CommandError, NO_COMMAND, NOT_THERE, Told};
 use tta_arch::Machine;
 use tta_code::Code;
+use tta_ops::UnitSet;
 use tta_ports::{Failed, Sink};
 use tta_report::Reply;
 
@@ -159,27 +160,35 @@ impl Session {
     pub fn command<S: Sink>(
         &mut self,
         line: &[u8],
-        basis: &Basis<'_>,
+        m: &Machine,
+        code: &Code,
+        units: &UnitSet,
+        input: &[u32],
         sink: &mut S,
     ) -> Result<Told, CommandError>
-        requires loaded { IsRunOf basis.now.m.now basis.now.code.now self.old.held }
+        requires loaded { IsRunOf m.now code.now self.old.held }
         requires few { self.old.held.cycle < 2 ^ 61 }
         requires short { length line.now ≤ 2 ^ 24 }
-        ensures loaded { IsRunOf basis.now.m.now basis.now.code.now self.new.held }
+        ensures loaded { IsRunOf m.now code.now self.new.held }
         ensures counted { self.new.held.cycle < self.old.held.cycle + 2 ^ 32 }
-        ensures does { let on = basis.now in
-            let U = stated unit_meaning on.units.now in
-            (d : Debugged) → Follows on.input.now self.old d
-            → Does on.input.now (command U on.m.now on.code.now line.now d) self.new
+        ensures does { let U = stated unit_meaning units.now in
+            (d : Debugged) → Follows input.now self.old d
+            → Does input.now (command U m.now code.now line.now d) self.new
             (S.output sink.old)
             (S.output sink.new) result }
         ensures keeps { Keeps self.old self.new
             (S.output sink.old)
             (S.output sink.new) result }
     {
-        match read_asked(line) {
-            Some(asked) => carry_out(self, &asked, basis, sink),
-            None => Err(CommandError::Refused(NO_COMMAND)),
-        }
+        let Some(asked) = read_asked(line) else {
+            return Err(CommandError::Refused(NO_COMMAND));
+        };
+        let basis = Basis {
+            m,
+            code,
+            units,
+            input,
+        };
+        carry_out(self, &asked, &basis, sink)
     }
 }

@@ -48,7 +48,7 @@ pub fn take_line<S: Sink>(
     ensures cause { CountsFault (is_err result) (S.output sink.old).faults
         (S.output sink.new).faults }
 {
-    match session.command(line, basis, sink) {
+    match session.command(line, basis.m, basis.code, basis.units, basis.input, sink) {
         Ok(Told::More) => Ok(true),
         Ok(Told::Bye) => Ok(false),
         Err(CommandError::SinkFailed) => Err(Failed),
